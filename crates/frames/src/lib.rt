@@ -226,8 +226,7 @@ impl Receiver {
         ensures { λ r. ⌜ r ≡ feedOf self (now (piece .entry)) ⌝ }
     {
         let mut link = self.link;
-        if link.sound() {
-        } else {
+        if link.sound() {} else {
             return Fed {
                 refused: 59,
                 eaten: 0,
@@ -264,8 +263,7 @@ impl Receiver {
         ensures { λ r. ⌜ r ≡ silenceOf self ⌝ }
     {
         let link = self.link;
-        if link.sound() {
-        } else {
+        if link.sound() {} else {
             return Fell {
                 refused: 59,
                 outcome: Outcome::Quiet,

@@ -1,3 +1,11 @@
+use mathlib.Core.Path.{_≡_, sym, _∙_}
+use Prim.Native.Nat.{_<_, _≤_}
+use native.Mathlib.Omega.{arith}
+use lib.ListN.{length, take}
+use lib.Seq.{length-take-le}
+use borrow.Author.Tests.{lt-ltb, le-ltb, eq-eqb, ne-eqb}
+use Rattle.sums.specs.Sums.{dataRun, dataStep}
+use Rattle.frames.specs.Step.{lengthOf}
 use borrow.Author.Needs.{needs}
 use Rattle.frames.proofs.Link.data_octet.Statement.{statement}
 use Rattle.frames.proofs.Link.data_octet.Tie as tie
@@ -30,7 +38,7 @@ same-length c = search needs
 
 -- src/lib.rt:121:13
 returns : tie.Need-returns
-returns c = ?
+returns c = rw (← c .before .before .length-of .ensures, lt-ltb _ _ (c .before .if1 .taken), c .go .ensures)
 
 -- src/lib.rt:126:13
 go-requires-2 : tie.Need-go-requires-2
@@ -38,7 +46,7 @@ go-requires-2 c κs = search needs
 
 -- src/lib.rt:126:13
 returns-2 : tie.Need-returns-2
-returns-2 c = ?
+returns-2 c = rw (← c .before .before .before .length-of .ensures, le-ltb _ _ (c .before .before .if1 .left), eq-eqb _ _ (c .before .if2 .taken), c .go2 .ensures)
 
 -- src/lib.rt:128:17
 cast-m : tie.Need-cast-m
@@ -50,7 +58,7 @@ slice-reshare-prefix-data-run c = search needs
 
 -- src/lib.rt:129:42
 slice-aggregate-data-run : tie.Need-slice-aggregate-data-run
-slice-aggregate-data-run c = ?
+slice-aggregate-data-run c = sym (length-take-le _ _ (omega arith))
 
 -- src/lib.rt:129:13
 data-run-requires : tie.Need-data-run-requires
@@ -72,9 +80,23 @@ go-requires-3 c κs = search needs
 same-length-2 : tie.Need-same-length-2
 same-length-2 c = search needs
 
+abbrev start : tie.After-data-step2 → tie.Start
+start c = c .before .before .before .before .before .before .before .before .before
+
+abbrev at-length : tie.After-data-step2 → tie.After-length-of
+at-length c = c .before .before .before .before .before .before
+
+lengthy : (c : tie.After-data-step2) → lengthOf (start c .args .self .head) ≡ at-length c .length-of .result
+lengthy c = cc
+
+checked : (c : tie.After-data-step2)
+    → dataStep (dataStep (dataRun 0xFFFF (take (at-length c .length-of .result) (start c .args .store .now))) (start c .args .self .first)) (start c .args .b)
+    ≡ c .data-step2 .result
+checked c = cc
+
 -- src/lib.rt:131:13
 returns-3 : tie.Need-returns-3
-returns-3 c = ?
+returns-3 c = rw (lengthy (c .before .before), le-ltb _ _ (c .before .before .before .before .before .before .before .if1 .left), ne-eqb _ _ (c .before .before .before .before .before .before .if2 .left), checked (c .before .before), eq-eqb _ _ (c .before .if3 .taken), c .go3 .ensures)
 
 -- src/lib.rt:133:9
 go-requires-4 : tie.Need-go-requires-4
@@ -86,7 +108,7 @@ same-length-3 c = search needs
 
 -- src/lib.rt:111:5
 returns-4 : tie.Need-returns-4
-returns-4 c = ?
+returns-4 c = rw (lengthy (c .before .before), le-ltb _ _ (c .before .before .before .before .before .before .before .if1 .left), ne-eqb _ _ (c .before .before .before .before .before .before .if2 .left), checked (c .before .before), ne-eqb _ _ (c .before .if3 .left), c .go4 .ensures)
 
 pub data-octet-spec : {M : Type 1} → statement M
 data-octet-spec =

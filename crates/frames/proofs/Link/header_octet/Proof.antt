@@ -1,3 +1,9 @@
+use Rattle.frames.specs.Step.{lengthOf}
+use Rattle.sums.specs.Sums.{headerRun, headerStep}
+use borrow.Author.Tests.{lt-ltb, le-ltb, eq-eqb, ne-eqb}
+use lib.Dec.{eqb, ltb}
+use mathlib.Core.Bool.{true, false}
+use mathlib.Core.Path.{_≡_, sym, _∙_}
 use borrow.Author.Needs.{needs}
 use Rattle.frames.proofs.Link.header_octet.Statement.{statement}
 use Rattle.frames.proofs.Link.header_octet.Tie as tie
@@ -22,7 +28,7 @@ go-requires c κs = search needs
 
 -- src/lib.rt:95:13
 returns : tie.Need-returns
-returns c = ?
+returns c = rw (lt-ltb _ _ (c .before .if1 .taken)) (c .go .ensures)
 
 -- src/lib.rt:98:53
 slice-aggregate-header-run : tie.Need-slice-aggregate-header-run
@@ -40,9 +46,25 @@ header-step-requires c κs = search needs
 go-requires-2 : tie.Need-go-requires-2
 go-requires-2 c κs = search needs
 
+-- past the five octets; the check and the length, as the code has them
+late : (c : tie.After-header-step) → ltb (c .before .before .before .before .before .args .got) 5 ≡ false
+late c = le-ltb _ _ (c .before .before .before .before .if1 .left)
+
+checked : (c : tie.After-header-step)
+    → headerStep (headerRun 255 (c .before .before .before .before .before .args .self .head)) (c .before .before .before .before .before .args .b) ≡ c .header-step .result
+checked c = cc
+
+lengthy : (c : tie.After-length-of)
+    → lengthOf (c .before .before .before .before .before .before .before .args .self .head) ≡ c .length-of .result
+lengthy c = cc
+
+good : (c : tie.Else2)
+    → eqb (headerStep (headerRun 255 (c .before .before .before .before .before .before .args .self .head)) (c .before .before .before .before .before .before .args .b)) 0x55 ≡ true
+good c = eq-eqb _ _ (checked (c .before) ∙ c .if2 .left)
+
 -- src/lib.rt:99:13
 returns-2 : tie.Need-returns-2
-returns-2 c = ?
+returns-2 c = rw (late (c .before .before), checked (c .before .before), ne-eqb _ _ (c .before .if2 .taken)) (c .go2 .ensures)
 
 -- src/lib.rt:101:13
 length-of-requires : tie.Need-length-of-requires
@@ -54,7 +76,7 @@ go-requires-3 c κs = search needs
 
 -- src/lib.rt:103:13
 returns-3 : tie.Need-returns-3
-returns-3 c = ?
+returns-3 c = rw (late (c .before .before .before .before), good (c .before .before .before), lengthy (c .before .before), lt-ltb _ _ (c .before .if3 .taken)) (c .go3 .ensures)
 
 -- src/lib.rt:106:13
 go-requires-4 : tie.Need-go-requires-4
@@ -62,7 +84,7 @@ go-requires-4 c κs = search needs
 
 -- src/lib.rt:106:13
 returns-4 : tie.Need-returns-4
-returns-4 c = ?
+returns-4 c = rw (late (c .before .before .before .before .before), good (c .before .before .before .before), lengthy (c .before .before .before), le-ltb _ _ (c .before .before .if3 .left), eq-eqb _ _ (c .before .if4 .taken)) (c .go4 .ensures)
 
 -- src/lib.rt:108:9
 go-requires-5 : tie.Need-go-requires-5
@@ -70,7 +92,7 @@ go-requires-5 c κs = search needs
 
 -- src/lib.rt:86:5
 returns-5 : tie.Need-returns-5
-returns-5 c = ?
+returns-5 c = rw (late (c .before .before .before .before .before), good (c .before .before .before .before), lengthy (c .before .before .before), le-ltb _ _ (c .before .before .if3 .left), ne-eqb _ _ (c .before .if4 .left)) (c .go5 .ensures)
 
 pub header-octet-spec : {M : Type 1} → statement M
 header-octet-spec =

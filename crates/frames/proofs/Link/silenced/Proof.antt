@@ -39,19 +39,19 @@ go-requires-4 c κs = search needs
 
 -- src/lib.rt:186:5
 returns : tie.Need-returns
-returns c = ?
+returns c = rw (c .before .enum-told .given .1) (c .go .ensures)
 
 -- src/lib.rt:186:5
 returns-2 : tie.Need-returns-2
-returns-2 c = ?
+returns-2 c = rw (c .before .enum-told2 .given .1) (c .go2 .ensures)
 
 -- src/lib.rt:186:5
 returns-3 : tie.Need-returns-3
-returns-3 c = ?
+returns-3 c = rw (c .before .enum-told3 .given .1) (c .go3 .ensures)
 
 -- src/lib.rt:186:5
 returns-4 : tie.Need-returns-4
-returns-4 c = ?
+returns-4 c = rw (c .before .enum-told4 .given .1) (c .go4 .ensures)
 
 pub silenced-spec : {M : Type 1} → statement M
 silenced-spec =

@@ -1,3 +1,8 @@
+use Rattle.frames.proofs.Laws.{none, over, within}
+use Rattle.frames.specs.Step.{lengthOf}
+use native.Mathlib.Omega.{arith}
+use Prim.Native.Nat.{_<_, _≤_}
+use mathlib.Core.Path.{_≡_, sym, _∙_}
 use borrow.Author.Needs.{needs}
 use Rattle.frames.proofs.Link.sound.Statement.{statement}
 use Rattle.frames.proofs.Link.sound.Tie as tie
@@ -27,11 +32,11 @@ length-of-requires c κs = search needs
 
 -- src/lib.rt:176:21
 returns : tie.Need-returns
-returns c = ?
+returns c = rw (c .before .before .before .p2 .given .1, ← c .before .length-of .ensures) (sym (none (c .before .before .before .p2 .given .0 .0) _ (c .if1 .taken)))
 
 -- src/lib.rt:179:21
 returns-2 : tie.Need-returns-2
-returns-2 c = ?
+returns-2 c = rw (c .before .before .before .before .p2 .given .1, ← c .before .before .length-of .ensures) (sym (over (c .before .before .before .before .p2 .given .0 .0) _ (c .if2 .taken)))
 
 -- src/lib.rt:181:23
 add-result : tie.Need-add-result
@@ -47,11 +52,11 @@ returns-4 c = search needs
 
 -- src/lib.rt:164:5
 returns-5 : tie.Need-returns-5
-returns-5 c = ?
+returns-5 c = rw (c .before .p .given .1)
 
 -- src/lib.rt:164:5
 returns-6 : tie.Need-returns-6
-returns-6 c = ?
+returns-6 c = rw (c .before .before .before .before .p2 .given .1, ← c .before .before .length-of .ensures) (sym (within (c .before .before .before .before .p2 .given .0 .0) (c .before .before .length-of .result) (omega arith) (c .if2 .left)))
 
 pub sound-spec : {M : Type 1} → statement M
 sound-spec =

@@ -1,3 +1,6 @@
+use borrow.Author.Tests.{eq-eqb, ne-eqb, ltb-true}
+use Rattle.frames.specs.Step.{stepOf, lengthOf}
+use Rattle.frames.proofs.Laws.{data-left}
 use borrow.Author.Needs.{needs}
 use Rattle.frames.proofs.Link.step.Statement.{statement}
 use Rattle.frames.proofs.Link.step.Tie as tie
@@ -41,7 +44,7 @@ enum-known-p c = search needs
 
 -- src/lib.rt:158:35
 header-octet-requires : tie.Need-header-octet-requires
-header-octet-requires c κs = ?
+header-octet-requires c κs = ltb-true _ _ (rw (c .before .p .given .1) at (c .before .before .before .before .pre .1))
 
 -- src/lib.rt:159:25
 enum-known-p-2 : tie.Need-enum-known-p-2
@@ -49,31 +52,37 @@ enum-known-p-2 c = search needs
 
 -- src/lib.rt:159:33
 data-octet-requires : tie.Need-data-octet-requires
-data-octet-requires c κs = ?
+data-octet-requires c κs = (c .before .before .before .before .before .pre .0, data-left (c .before .before .p2 .given .0 .0) (lengthOf (c .before .before .before .before .before .args .self .head)) (rw (c .before .before .p2 .given .1) at (c .before .before .before .before .before .pre .1)))
 
 -- src/lib.rt:136:5
 returns : tie.Need-returns
-returns c = ?
+unfolding stepOf
+returns c = rw (c .before .before .enum-told .given .1, eq-eqb _ _ (c .before .if1 .taken), c .go .ensures)
 
 -- src/lib.rt:136:5
 returns-2 : tie.Need-returns-2
-returns-2 c = ?
+unfolding stepOf
+returns-2 c = rw (c .before .before .enum-told .given .1, ne-eqb _ _ (c .before .if1 .left), c .go2 .ensures)
 
 -- src/lib.rt:136:5
 returns-3 : tie.Need-returns-3
-returns-3 c = ?
+unfolding stepOf
+returns-3 c = rw (c .before .before .enum-told2 .given .1, eq-eqb _ _ (c .before .if2 .taken), c .go3 .ensures)
 
 -- src/lib.rt:136:5
 returns-4 : tie.Need-returns-4
-returns-4 c = ?
+unfolding stepOf
+returns-4 c = rw (c .before .before .before .enum-told2 .given .1, ne-eqb _ _ (c .before .before .if2 .left), eq-eqb _ _ (c .before .if3 .taken), c .go4 .ensures)
 
 -- src/lib.rt:136:5
 returns-5 : tie.Need-returns-5
-returns-5 c = ?
+unfolding stepOf
+returns-5 c = rw (c .before .before .before .enum-told2 .given .1, ne-eqb _ _ (c .before .before .if2 .left), ne-eqb _ _ (c .before .if3 .left), c .go5 .ensures)
 
 -- src/lib.rt:136:5
 returns-6 : tie.Need-returns-6
-returns-6 c = ?
+unfolding stepOf
+returns-6 c = rw (c .before .before .p .given .1, c .header-octet .ensures)
 
 -- src/lib.rt:136:5
 same-length : tie.Need-same-length
@@ -81,7 +90,8 @@ same-length c = search needs
 
 -- src/lib.rt:136:5
 returns-7 : tie.Need-returns-7
-returns-7 c = ?
+unfolding stepOf
+returns-7 c = rw (c .before .before .before .before .before .p2 .given .1) (c .before .before .data-octet .ensures)
 
 pub step-spec : {M : Type 1} → statement M
 step-spec =

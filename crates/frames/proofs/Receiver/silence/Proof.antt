@@ -1,3 +1,5 @@
+use mathlib.Core.Path.{_≡_, sym, _∙_}
+use Rattle.frames.specs.Step.{silenceOf, stillOf}
 use borrow.Author.Needs.{needs}
 use Rattle.frames.proofs.Receiver.silence.Statement.{statement}
 use Rattle.frames.proofs.Receiver.silence.Tie as tie
@@ -12,7 +14,8 @@ sound-requires c κs = search needs
 
 -- src/lib.rt:269:13
 returns : tie.Need-returns
-returns c = ?
+unfolding silenceOf
+returns c = rw (← c .before .sound .ensures, c .if1 .left)
 
 -- src/lib.rt:275:13
 silenced-requires : tie.Need-silenced-requires
@@ -20,7 +23,8 @@ silenced-requires c κs = search needs
 
 -- src/lib.rt:263:5
 returns-2 : tie.Need-returns-2
-returns-2 c = ?
+unfolding silenceOf stillOf
+returns-2 c = rw (← c .before .before .before .before .sound .ensures, c .before .before .before .if1 .taken, c .before .before .silenced .ensures)
 
 pub silence-spec : {M : Type 1} → statement M
 silence-spec = tie.close (tie.spec sound-requires returns silenced-requires returns-2)
