@@ -9,7 +9,7 @@ use lib.ListN.{drop}
 use lib.Seq.{drop-drop}
 use borrow.Author.Tests.{eq-eqb, ne-eqb}
 use mathlib.Core.Bool.{true, false}
-use Rattle.runs.specs.Run.{Event, Run, wire, octs, Trace, ended, Rules, Ends, ends, report, acted, walk}
+use Rattle.runs.specs.Run.{Event, Run, wire, octs, Trace, ended, last, outcomes, Rules, Ends, ends, report, acted, walk, echo}
 use Rattle.runs.specs.Run.Event.{octet, silence}
 use Rattle.runs.specs.Run.Order.{trunk, forget}
 use Rattle.runs.specs.Run.Trace.{told, final}
@@ -170,3 +170,22 @@ module _ {O M S A R : Type 0} (v : Machine M O) (u : Rules O S A R) where
         let same = F .frees m s a n h in
         let more = can run p m (b .free n m s) a (subst (λ (s : S). Pass m s a) (sym same) (F .freed m s a n h)) in
         (more .0, forgot n (more .1))
+
+-- ---- the machine by itself: its outcomes with their places, and its last state
+echo-tell : {O M : Type 0} (x : Option O) (p : ℕ) (t : Trace O M) (k : Unit → Unit → Ends M Unit Unit O) → k tt tt ≡ ends (outcomes t) (last t) tt tt
+    → acted echo p x tt tt k ≡ ends (outcomes (tell p x t)) (last (tell p x t)) tt tt
+echo-tell none p t k h = h
+echo-tell (some o) p t k h = ap (report p o) h
+
+echoed : {O M : Type 0} (v : Machine M O) (run : Run) (p : ℕ) (m : M)
+    → through v echo p m tt tt run ≡ ends (outcomes (trace v p m (wire run))) (last (trace v p m (wire run))) tt tt
+echoed v [] p m = refl
+echoed v (trunk e ∷ run) p m =
+    echo-tell (v .out m e) p (trace v (p + 1) (v .next m e) (wire run)) (λ s a. through v echo (p + 1) (v .next m e) s a run) (echoed v run (p + 1) (v .next m e))
+echoed v (forget n ∷ run) p m = echoed v run p m
+
+module _ {O M : Type 0} (v : Machine M O) (Pass : M → Unit → Unit → Type 0) (b : Box M Unit Unit O) (F : Follows v echo Pass b) where
+  pub demand-bare : {p : ℕ} {m : M} {run : Run} {e : Ends M Unit Unit O} (t : Trace O M) → trace v p m (wire run) ≡ t → Pass m tt tt
+      → Offered b p m tt tt run e → e ≡ ends (outcomes t) (last t) tt tt
+  demand-bare {p} {m} {run} t same h o =
+      offered v echo Pass b F h o ∙ echoed v run p m ∙ ap (λ (t : Trace O M). ends (outcomes t) (last t) tt tt) same
