@@ -1,0 +1,4 @@
+pub mod Spans
+pub mod Reading
+pub mod Held
+pub mod Demand
