@@ -1,0 +1,24 @@
+use Rattle.npdu.specs.Read.{partLen}
+use Rattle.octets.specs.Rules.{tests}
+use borrow.Author.Needs.{needs}
+use Rattle.npdu.proofs.part.part_len.Statement.{statement}
+use Rattle.npdu.proofs.part.part_len.Tie as tie
+
+pub part-len-spec : {M : Type 1} → statement M
+unfolding partLen
+part-len-spec =
+    tie.close
+    (tie.spec
+    (λ c κs. search needs)
+    (λ c. search (needs, tests))
+    (λ c κs. search needs)
+    (λ c. search (needs, tests))
+    (λ c. search needs)
+    (λ c. search needs)
+    (λ c κs. search needs)
+    (λ c. search (needs, tests))
+    (λ c. search needs)
+    (λ c κs. search needs)
+    (λ c. search needs)
+    (λ c. search needs)
+    (λ c. rw (c .address .ensures) (search (needs, tests))))
