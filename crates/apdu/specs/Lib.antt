@@ -1,0 +1,5 @@
+pub mod Reading
+pub mod Fields
+pub mod Layout
+pub mod FirstOctet
+pub mod Sound
