@@ -1,0 +1,4 @@
+pub mod Records
+pub mod Reading
+pub mod Grammar
+pub mod Listing

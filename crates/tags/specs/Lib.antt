@@ -1,0 +1,3 @@
+pub mod Types
+pub mod Head
+pub mod Layout
