@@ -10,14 +10,15 @@ use lib.ListN.{length, getD, take, drop, drop-of-length-le, length-set}
 use lib.Seq.{drop-cons}
 use borrow.Author.Tests.{lt-ltb, le-leb, lt-leb, ltb-true, ltb-false, leb-true, eqb-true, eqb-false}
 use Rattle.octets.specs.Choice.{pick, both, by-test, pick-case, pick-cases}
-use Rattle.sums.specs.Sums.{headerRun, headerStep, dataRun, dataStep}
+use Rattle.sums.specs.Sums.{headerLeft, dataLeft}
 use Rattle.frames.specs.declared.Phase.{Phase}
 use Rattle.frames.specs.declared.Phase.the-variants.{Hunting, Preamble, Header, Data}
-use Rattle.frames.specs.declared.Outcome.the-variants.{Quiet}
+use Rattle.frames.specs.declared.Outcome.{Outcome}
+use Rattle.frames.specs.declared.Outcome.the-variants.{Quiet, Frame, Damage}
 use Rattle.frames.specs.declared.Link.{Link}
 use Rattle.frames.specs.declared.Receiver.{Receiver}
 use Rattle.frames.specs.declared.Moved.{Moved}
-use Rattle.frames.specs.Step.{most, lengthOf, Stepped, whole, moved, headerEnd, headerOctet, dataEnd, dataOctet, dataSound, DataLeft, soundIn, soundOf, stepIn, stepOf, reportsOf, fedAt, feedFrom, feedOf, stillOf}
+use Rattle.frames.specs.Step.{most, lengthOf, Stepped, whole, moved, headerLeaves, headerEnd, headerOctet, dataLeaves, dataEnd, dataOctet, dataSound, DataLeft, soundIn, soundOf, stepIn, stepOf, reportsOf, fedAt, feedFrom, feedOf, stillOf, silenceOf}
 
 -- ---- 59's test as facts, and back
 both-left : (a b : Bool) → both a b ≡ true → a ≡ true
@@ -75,22 +76,28 @@ MovedSound m = LinkSound (m .link)
 abbrev SteppedSound : Stepped → Type 0
 SteppedSound s = Sound (s .receiver)
 
-header-end : (l : Link) (b : ℕ) → MovedSound (headerEnd l b)
-header-end l b =
-    pick-case MovedSound (eqb (headerStep (headerRun 0xFF (l .head)) b) 0x55)
-    (pick-cases MovedSound (ltb most (lengthOf (l .head))) (λ t. refl)
-    (λ t. pick-cases MovedSound (eqb (lengthOf (l .head)) 0) (λ z. refl)
+-- what holds of every way in which a header, and data, can end
+header-ends : (P : Moved → Type 0) (l : Link) (left n : ℕ) → ((o : Outcome) → P (moved l Hunting o)) → (0 < n → n ≤ most → P (moved l (Data 0) Quiet))
+    → P (headerEnd l left n)
+header-ends P l left n f g =
+    pick-case P (eqb left headerLeft)
+    (pick-cases P (ltb most n) (λ t. f (Damage 2))
+    (λ t. pick-cases P (eqb n 0) (λ z. f Frame)
     (λ z.
-    let fits : lengthOf (l .head) ≤ most = ltb-false _ _ t in
-    let some : lengthOf (l .head) ≡ 0 → ⊥ = eqb-false _ _ z in
-    data-sound 0 (lengthOf (l .head)) (record { some = omega arith; fits = fits; left = omega arith }))))
-    refl
+    let fits : n ≤ most = ltb-false _ _ t in
+    let some : n ≡ 0 → ⊥ = eqb-false _ _ z in
+    g (omega arith) fits)))
+    (f (Damage 1))
+
+data-ends : (P : Moved → Type 0) (l : Link) (left : ℕ) → ((o : Outcome) → P (moved l Hunting o)) → P (dataEnd l left)
+data-ends P l left f = pick-case P (eqb left dataLeft) (f Frame) (f (Damage 3))
 
 header-sound : (l : Link) (got b : ℕ) → got < 6 → MovedSound (headerOctet l got b)
 header-sound l got b h =
     pick-cases MovedSound (ltb got 5)
     (λ p. let q : got < 5 = ltb-true got 5 p in lt-ltb (got + 1) 6 (omega arith))
-    (λ p. header-end l b)
+    (λ p. header-ends MovedSound l (headerLeaves l b) (lengthOf (l .head)) (λ o. refl)
+    (λ some fits. data-sound 0 (lengthOf (l .head)) (record { some = some; fits = fits; left = omega arith })))
 
 data-keeps : (l : Link) (got b : ℕ) (s : List ℕ) → DataLeft got (lengthOf (l .head)) → SteppedSound (dataOctet l got b s)
 data-keeps l got b s d =
@@ -98,7 +105,7 @@ data-keeps l got b s d =
     (λ p. let q : got < lengthOf (l .head) = ltb-true _ _ p in next (omega arith))
     (λ p. pick-cases MovedSound (eqb got (lengthOf (l .head)))
     (λ q. let e : got ≡ lengthOf (l .head) = eqb-true _ _ q in next (omega arith))
-    (λ q. pick-case MovedSound (eqb (dataStep (dataStep (dataRun 0xFFFF (take (lengthOf (l .head)) s)) (l .first)) b) 0xF0B8) refl refl))
+    (λ q. data-ends MovedSound l (dataLeaves l b s) (λ o. refl)))
   where
     next : got + 1 < lengthOf (l .head) + 2 → dataSound (got + 1) (lengthOf (l .head)) ≡ true
     next h = data-sound (got + 1) (lengthOf (l .head)) (record { some = d .some; fits = d .fits; left = h })
@@ -128,8 +135,8 @@ feed-keeps (x ∷ xs) n r h =
 abbrev SameStore : List ℕ → Stepped → Type 0
 SameStore s t = length (t .receiver .store) ≡ length s
 
-abbrev SameHead : List ℕ → Moved → Type 0
-SameHead h m = length (m .link .head) ≡ length h
+abbrev SameHead : List ℕ → Link → Type 0
+SameHead h l = length (l .head) ≡ length h
 
 store-in : (p : Phase) (l : Link) (b : ℕ) (s : List ℕ) → SameStore s (stepIn p l b s)
 store-in Hunting l b s = refl
@@ -137,20 +144,16 @@ store-in Preamble l b s = refl
 store-in (Header got) l b s = refl
 store-in (Data got) l b s = pick-case (SameStore s) (ltb got (lengthOf (l .head))) (length-set s got b) refl
 
-head-end : (l : Link) (b : ℕ) → SameHead (l .head) (headerEnd l b)
-head-end l b =
-    pick-case (SameHead (l .head)) (eqb (headerStep (headerRun 0xFF (l .head)) b) 0x55)
-    (pick-case (SameHead (l .head)) (ltb most (lengthOf (l .head))) refl (pick-case (SameHead (l .head)) (eqb (lengthOf (l .head)) 0) refl refl))
-    refl
-
-head-in : (p : Phase) (l : Link) (b : ℕ) (s : List ℕ) → length (stepIn p l b s .receiver .link .head) ≡ length (l .head)
+head-in : (p : Phase) (l : Link) (b : ℕ) (s : List ℕ) → SameHead (l .head) (stepIn p l b s .receiver .link)
 head-in Hunting l b s = refl
 head-in Preamble l b s = refl
-head-in (Header got) l b s = pick-case (SameHead (l .head)) (ltb got 5) (length-set (l .head) got b) (head-end l b)
+head-in (Header got) l b s =
+    pick-case (λ (m : Moved). SameHead (l .head) (m .link)) (ltb got 5) (length-set (l .head) got b)
+    (header-ends (λ (m : Moved). SameHead (l .head) (m .link)) l (headerLeaves l b) (lengthOf (l .head)) (λ o. refl) (λ some fits. refl))
 head-in (Data got) l b s =
-    pick-case (λ (t : Stepped). length (t .receiver .link .head) ≡ length (l .head)) (ltb got (lengthOf (l .head))) refl
-    (pick-case (SameHead (l .head)) (eqb got (lengthOf (l .head))) refl
-    (pick-case (SameHead (l .head)) (eqb (dataStep (dataStep (dataRun 0xFFFF (take (lengthOf (l .head)) s)) (l .first)) b) 0xF0B8) refl refl))
+    pick-case (λ (t : Stepped). SameHead (l .head) (t .receiver .link)) (ltb got (lengthOf (l .head))) refl
+    (pick-case (λ (m : Moved). SameHead (l .head) (m .link)) (eqb got (lengthOf (l .head))) refl
+    (data-ends (λ (m : Moved). SameHead (l .head) (m .link)) l (dataLeaves l b s) (λ o. refl)))
 
 pub step-store : (r : Receiver) (b : ℕ) → length (stepOf r b .receiver .store) ≡ length (r .store)
 unfolding stepOf
@@ -176,6 +179,22 @@ pub opened : (r : Receiver) (xs : List ℕ) → Sound r → feedFrom 0 r xs ≡ 
 unfolding feedOf
 opened r xs h = rw h
 
--- "An empty piece eats 0 and changes nothing"
-pub feed-none : (r : Receiver) → Sound r → feedOf r [] ≡ fedAt 0 Quiet r
-feed-none r h = sym (opened r [] h)
+-- "An empty piece eats 0 and changes nothing"; 59 refuses it all the same
+pub feed-none : (r : Receiver) → feedOf r [] ≡ record { refused = pick (soundOf r) 0 59; eaten = 0; outcome = Quiet; receiver = r }
+unfolding feedOf
+feed-none r = by-test (soundOf r) (λ t. rw t) (λ t. rw t)
+
+-- 59 is given exactly when the state is not sound
+from-refused : (xs : List ℕ) (n : ℕ) (r : Receiver) → feedFrom n r xs .refused ≡ 0
+from-refused [] n r = refl
+from-refused (x ∷ xs) n r =
+    let ih = from-refused xs (n + 1) (stepOf r x .receiver) in
+    by-test (reportsOf (stepOf r x .outcome)) (λ t. rw t) (λ t. rw t ih)
+
+pub feed-refused : (r : Receiver) (xs : List ℕ) → feedOf r xs .refused ≡ pick (soundOf r) 0 59
+unfolding feedOf
+feed-refused r xs = by-test (soundOf r) (λ t. rw t (from-refused xs 0 r)) (λ t. rw t)
+
+pub silence-refused : (r : Receiver) → silenceOf r .refused ≡ pick (soundOf r) 0 59
+unfolding silenceOf
+silence-refused r = by-test (soundOf r) (λ t. rw t) (λ t. rw t)
