@@ -47,7 +47,7 @@ sized-in (Data got) l b s =
       (λ f. rw f (by-test (eqb (dataStep (dataStep (dataRun dataStart (take (lengthOf (l .head)) s)) (l .first)) b) dataLeft)
         (λ g. rw g (record { head = refl; store = refl })) (λ g. rw g (record { head = refl; store = refl }))))))
 
-sound-on : (r : Receiver) (e : Event) → Sound r → Sound (machine .next r e)
+pub sound-on : (r : Receiver) (e : Event) → Sound r → Sound (machine .next r e)
 unfolding stepOf
 sound-on r (octet x) h =
     let z = sized-in (r .link .phase) (r .link) x (r .store) in

@@ -2,3 +2,4 @@ pub mod Spans
 pub mod Reading
 pub mod Held
 pub mod Demand
+pub mod Frames

@@ -12,6 +12,7 @@ use lib.Seq.{take-suc-set, take-all, take-at, length-take-le}
 use borrow.Author.Tests.{lt-ltb, le-ltb, eq-eqb, ne-eqb, ltb-false, eqb-true}
 use Rattle.octets.specs.Choice.{pick, both, by-test}
 use Rattle.sums.specs.Sums.{headerRun, headerStep, headerStart, headerLeft, dataRun, dataStep, dataStart, dataLeft}
+use Rattle.sums.proofs.Good.{run-append}
 use Rattle.runs.specs.Run.{Event, Trace}
 use Rattle.runs.specs.Run.Event.{octet, silence}
 use Rattle.runs.specs.Run.Trace.{told, final}
@@ -23,7 +24,7 @@ use Rattle.trunk.specs.Reading.{Out, Kept, at, laid, Found, isOct, ends5
 use Rattle.trunk.specs.Reading.Out.{good, damage}
 use Rattle.trunk.specs.Reading.Found.{found, nothing}
 use Rattle.trunk.specs.Demand.{outOf}
-use Rattle.trunk.proofs.Spans.{kept, laid-take, run-snoc, prefixed, prefixed-push, prefixed-none, laid-head, laid-store, laid-first, head-self, data-self, first-self}
+use Rattle.trunk.proofs.Spans.{kept, laid-take, prefixed, prefixed-push, prefixed-none, laid-head, laid-store, laid-first, head-self, data-self, first-self}
 
 -- ---- the step on an event, as a machine
 abbrev pub on : Receiver → Event → Stepped
@@ -78,7 +79,7 @@ module _ (m : ℕ) (k : Read)
       let other : eqb (lengthOf h + 1) (lengthOf h) ≡ false = ne-eqb (lengthOf h + 1) (lengthOf h) (omega arith) in
       let part : length d ≡ lengthOf h = length-take-le (lengthOf h) s (omega arith) in
       let sums : dataRun dataStart ((d ++ (c ∷ [])) ++ (b ∷ [])) ≡ dataStep (dataStep (dataRun dataStart d) c) b =
-          run-snoc dataStep dataStart (d ++ (c ∷ [])) b ∙ ap (λ (r : ℕ). dataStep r b) (run-snoc dataStep dataStart d c) in
+          run-append dataStep dataStart (d ++ (c ∷ [])) (b ∷ []) ∙ ap (λ (r : ℕ). dataStep r b) (run-append dataStep dataStart d (c ∷ [])) in
       let ih = goes (p + 1) h c s _ es (first-self h c s (b ∷ []) (omega arith)) lh ls (omega arith) in
       let same : take (lengthOf h) ((d ++ (c ∷ [])) ++ (b ∷ [])) ≡ d = rw (append-assoc d (c ∷ []) (b ∷ [])) (take-at d _ (lengthOf h) part) in
       rw (late, other, sums) (by-test (eqb (dataStep (dataStep (dataRun dataStart d) c) b) dataLeft)
@@ -123,7 +124,7 @@ module _ (m : ℕ) (k : Read)
       let ih = hk (p + 1) h c s es lh ls (omega arith) in
       let five : take 5 h ≡ h = take-all 5 h (omega arith) in
       let own : laid (take 5 (h ++ (b ∷ []))) h ≡ h = rw (take-at h (b ∷ []) 5 lh) (rw five at (laid-take 5 h (omega arith))) in
-      rw (five, run-snoc headerStep headerStart h b, own)
+      rw (five, run-append headerStep headerStart h (b ∷ []), own)
       (by-test (eqb (headerStep (headerRun headerStart h) b) headerLeft)
         (λ e. rw e (by-test (ltb most (lengthOf h))
             (λ t. rw t (ap (told p (damage 2)) ih))

@@ -9,7 +9,7 @@ use lib.Seq.{take-all, take-at, getD-at, length-take-le, drop-set-lt}
 use Rattle.octets.specs.Splice.{splice-front}
 use lib.Dec.{eqb}
 use Rattle.octets.specs.Choice.{pick}
-use Rattle.sums.specs.Sums.{run, headerRun, headerStart, headerLeft, dataRun, dataStart, dataLeft}
+use Rattle.sums.specs.Sums.{headerRun, headerStart, headerLeft, dataRun, dataStart, dataLeft}
 use Rattle.runs.specs.Run.Trace.{told, final}
 use Rattle.frames.specs.declared.Phase.the-variants.{Header, Data}
 use Rattle.frames.specs.Step.{lengthOf}
@@ -33,11 +33,6 @@ getD-any : (xs : List ℕ) (n c d : ℕ) → n < length xs → getD xs n c ≡ g
 getD-any [] n c d l = absurd (not-suc-le-zero l)
 getD-any (x ∷ xs) zero c d l = refl
 getD-any (x ∷ xs) (suc n) c d l = getD-any xs n c d (le-of-suc-le-suc l)
-
--- a register over one octet more
-pub run-snoc : (f : ℕ → ℕ → ℕ) (reg : ℕ) (xs : List ℕ) (x : ℕ) → run f reg (xs ++ (x ∷ [])) ≡ f (run f reg xs) x
-run-snoc f reg [] x = refl
-run-snoc f reg (y ∷ xs) x = run-snoc f (f reg y) xs x
 
 -- ---- a span behind octets that are there already
 abbrev pub prefixed : List ℕ → Span → Span

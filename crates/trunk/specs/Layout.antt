@@ -1,0 +1,56 @@
+-- What a frame is on the wire, and where one stands in a recording.
+use mathlib.Core.Path.{_≡_}
+use mathlib.Core.Bool.{Bool, true, false}
+use mathlib.Core.List.{List, [], _∷_, _++_}
+use Prim.Native.Nat.{ℕ, _+_, _/_, _%_, _<_, _≤_}
+use lib.ListN.{length}
+use Rattle.sums.specs.Sums.{headerCheck, dataCheck}
+use Rattle.runs.specs.Run.{Event, last}
+use Rattle.runs.specs.Run.Event.{octet, silence}
+use Rattle.frames.specs.declared.Phase.{Phase}
+use Rattle.frames.specs.declared.Phase.the-variants.{Hunting, Preamble, Header, Data}
+use Rattle.frames.specs.Step.{most}
+use Rattle.trunk.specs.Reading.{Kept, came, readingOf}
+
+-- "type, destination, source, length (2 octets, high first)"
+unfoldable pub headOf : ℕ → ℕ → ℕ → ℕ → List ℕ
+headOf kind to from n = kind ∷ to ∷ from ∷ n / 256 ∷ n % 256 ∷ []
+
+-- "and, where length is not 0, the data and two check octets"
+abbrev pub dataPart : List ℕ → List ℕ
+dataPart [] = []
+dataPart (x ∷ d) = (x ∷ d) ++ dataCheck (x ∷ d)
+
+-- "A frame is 55 FF, type, destination, source, length (2 octets, high first), header check, and, where length is not 0, the data and two check
+-- octets."
+unfoldable pub frameOctets : ℕ → ℕ → ℕ → List ℕ → List ℕ
+frameOctets kind to from d =
+    let h = headOf kind to from (length d) in
+    0x55 ∷ 0xFF ∷ (h ++ (headerCheck h ∷ dataPart d))
+
+-- the octets of a recording are octets
+abbrev pub Bytes : List Event → Type 0
+Bytes [] = Unit
+Bytes (octet x ∷ es) = (x < 256) × Bytes es
+Bytes (silence ∷ es) = Bytes es
+
+-- no frame is open
+abbrev pub idle : Phase → Bool
+idle Hunting = true
+idle Preamble = true
+idle (Header got) = false
+idle (Data got) = false
+
+-- In the recording es, read from what is kept in w, a frame with head h and data d ends at place q: its octets stand there from 55 FF to q, its
+-- data fit, and where it begins no other frame is open.
+pub record FrameAt (w : Kept) (es : List Event) (q : ℕ) (h d : List ℕ) : Type 0 where
+  pub kind : ℕ
+  pub to : ℕ
+  pub from : ℕ
+  pub front : List Event
+  pub rest : List Event
+  pub head : h ≡ headOf kind to from (length d)
+  pub fits : length d ≤ most
+  pub stands : es ≡ front ++ (came (frameOctets kind to from d) ++ rest)
+  pub ends : length front + length (frameOctets kind to from d) ≡ q + 1
+  pub free : idle (last (readingOf w front) .link .phase) ≡ true
