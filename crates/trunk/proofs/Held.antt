@@ -1,6 +1,6 @@
 -- Reading on from a state is reading, from hunting, what it holds and then the trunk.
 use mathlib.Core.Path.{_≡_, refl, sym, ap, ap₂, _∙_}
-use mathlib.Core.Bool.{true, false}
+use mathlib.Core.Bool.{true}
 use mathlib.Core.List.{List, [], _∷_, _++_}
 use Prim.Native.Nat.{ℕ, zero, suc, _+_, _<_, _≤_}
 use native.Mathlib.Nat.{zero-add, le-refl}
@@ -18,11 +18,11 @@ use Rattle.runs.specs.Run.Event.{octet}
 use Rattle.frames.specs.declared.Phase.{Phase}
 use Rattle.frames.specs.declared.Phase.the-variants.{Hunting, Preamble, Header, Data}
 use Rattle.frames.specs.declared.Receiver.{Receiver}
-use Rattle.frames.specs.Step.{most, lengthOf, DataLeft, soundIn, soundOf}
+use Rattle.frames.specs.Step.{most, lengthOf, DataLeft, soundIn}
 use Rattle.frames.proofs.Laws.{data-left}
 use Rattle.trunk.specs.Reading.{at, readingOf, dataHeld, pending, came, keptOf, heldOf, readFrom}
 use Rattle.trunk.specs.Demand.{Sound}
-use Rattle.trunk.proofs.Spans.{kept}
+use Rattle.trunk.proofs.Spans.{kept, came-append}
 use Rattle.trunk.proofs.Reading.{steps, by-position}
 
 -- octets that are there already are laid again, and change nothing
@@ -45,10 +45,6 @@ fill-data (suc n) got h c s p es l ls =
     rw (drop-cons s got 0 (omega arith), more, set-getD s got 0, ← add-one got)
     (fill-data n (got + 1) h c s (p + 1) es (omega arith) ls
     ∙ ap₂ (λ (q g : ℕ). steps q (at (Data g) (kept h c s)) es) (omega arith) (omega arith))
-
-pub came-append : (xs ys : List ℕ) (es : List Event) → came (xs ++ ys) ++ es ≡ came xs ++ (came ys ++ es)
-came-append [] ys es = refl
-came-append (x ∷ xs) ys es = ap (λ (l : List Event). octet x ∷ l) (came-append xs ys es)
 
 -- the check octet that a head in data had
 passed : (h : List ℕ) (c : ℕ) (s : List ℕ) (p : ℕ) (es : List Event) → 0 < lengthOf h → lengthOf h ≤ most

@@ -4,21 +4,35 @@ use mathlib.Core.List.{List, [], _∷_, _++_, append-assoc, append-nil}
 use Prim.Native.Nat.{ℕ, zero, suc, _+_, _<_, _≤_}
 use native.Mathlib.Nat.{not-suc-le-zero, le-of-suc-le-suc}
 use native.Mathlib.Omega.{arith}
-use lib.ListN.{length, getD, set, take, drop, length-append, length-take, take-append-drop, List·getD-eq-default}
+use lib.ListN.{length, getD, set, take, length-append, length-take, take-append-drop, List·getD-eq-default}
 use lib.Seq.{take-all, take-at, getD-at, length-take-le, drop-set-lt}
 use Rattle.octets.specs.Splice.{splice-front}
 use lib.Dec.{eqb}
 use Rattle.octets.specs.Choice.{pick}
-use Rattle.sums.specs.Sums.{headerRun, headerStart, headerLeft, dataRun, dataStart, dataLeft}
+use Rattle.sums.specs.Sums.{dataRun, dataStart, dataLeft}
+use Rattle.runs.specs.Run.{Event}
+use Rattle.runs.specs.Run.Event.{octet}
 use Rattle.runs.specs.Run.Trace.{told, final}
 use Rattle.frames.specs.declared.Phase.the-variants.{Header, Data}
 use Rattle.frames.specs.Step.{lengthOf}
-use Rattle.trunk.specs.Reading.{Kept, at, laid, withHead, withData, Span, push, Read, afterData, judged, afterHeader}
+use Rattle.trunk.specs.Reading.{Kept, at, laid, withHead, withData, Span, push, Read, afterData, judged, afterHeader, came}
 use Rattle.trunk.specs.Reading.Out.{good, damage}
 use Rattle.trunk.specs.Reading.Span.{full, cut, open-ended}
 
 abbrev pub kept : List ℕ → ℕ → List ℕ → Kept
 kept h c s = record { head = h; first = c; store = s }
+
+-- ---- octets as events
+pub came-two : (xs ys : List ℕ) → came (xs ++ ys) ≡ came xs ++ came ys
+came-two [] ys = refl
+came-two (x ∷ xs) ys = ap (λ (l : List Event). octet x ∷ l) (came-two xs ys)
+
+pub came-append : (xs ys : List ℕ) (es : List Event) → came (xs ++ ys) ++ es ≡ came xs ++ (came ys ++ es)
+came-append xs ys es = ap (λ (l : List Event). l ++ es) (came-two xs ys) ∙ append-assoc (came xs) (came ys) es
+
+pub length-came : (xs : List ℕ) → length (came xs) ≡ length xs
+length-came [] = refl
+length-came (x ∷ xs) = ap suc (length-came xs)
 
 -- ---- laying
 -- a store's own front leaves it
@@ -63,7 +77,7 @@ over-first h xs b c s l = rw (getD-any xs (lengthOf h) b c l)
 -- a header's reading behind pre looks at what is kept as pre leaves it
 header-over : (k : Read) (v w : Kept) (pre : List ℕ) (sp : Span) → ((xs : List ℕ) → withHead (pre ++ xs) v ≡ withHead (pre ++ xs) w)
     → afterHeader k v (prefixed pre sp) ≡ afterHeader k w (prefixed pre sp)
-header-over k v w pre (full xs q es) e = ap (λ (w : Kept). judged k w (eqb (headerRun headerStart (pre ++ xs)) headerLeft) q es) (e xs)
+header-over k v w pre (full xs q es) e = ap (λ (w : Kept). judged k w (pre ++ xs) q es) (e xs)
 header-over k v w pre (cut xs q es) e = ap (λ (w : Kept). told q (damage 4) (k (q + 1) w es)) (e xs)
 header-over k v w pre (open-ended xs) e = ap (λ (w : Kept). final (at (Header (length (pre ++ xs))) w)) (e xs)
 
