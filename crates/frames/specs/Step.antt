@@ -48,26 +48,32 @@ whole m s = record { outcome = m .outcome; receiver = record { link = m .link; s
 abbrev pub moved : Link → Phase → Outcome → Moved
 moved l p o = record { outcome = o; link = record { phase = p; head = l .head; first = l .first } }
 
--- "After the header check octet: bad check is damage 1; then length above 501 is damage 2." Without data this is a good frame's end.
-abbrev pub headerEnd : Link → ℕ → Moved
-headerEnd l b =
-    pick (eqb (headerStep (headerRun headerStart (l .head)) b) headerLeft)
-    (pick (ltb most (lengthOf (l .head))) (moved l Hunting (Damage 2))
-    (pick (eqb (lengthOf (l .head)) 0) (moved l Hunting Frame) (moved l (Data 0) Quiet)))
+-- what the check of the five octets and the check octet b leaves
+abbrev pub headerLeaves : Link → ℕ → ℕ
+headerLeaves l b = headerStep (headerRun headerStart (l .head)) b
+
+-- "After the header check octet: bad check is damage 1; then length above 501 is damage 2." Without data it is a good frame's end.
+-- "These, and a good frame's end, resume hunting at the next octet. Destinations and sources are not judged." left: what the check leaves; n: the length
+abbrev pub headerEnd : Link → ℕ → ℕ → Moved
+headerEnd l left n =
+    pick (eqb left headerLeft)
+    (pick (ltb most n) (moved l Hunting (Damage 2)) (pick (eqb n 0) (moved l Hunting Frame) (moved l (Data 0) Quiet)))
     (moved l Hunting (Damage 1))
 
--- five octets, laid as they come, and the header check; got of them are there
+-- five octets, laid as they come, and the header check; got of these six are there
 abbrev pub headerOctet : Link → ℕ → ℕ → Moved
 headerOctet l got b =
     pick (ltb got 5)
     (record { outcome = Quiet; link = record { phase = Header (got + 1); head = set (l .head) got b; first = l .first } })
-    (headerEnd l b)
+    (headerEnd l (headerLeaves l b) (lengthOf (l .head)))
 
--- "Bad data check is damage 3."
-abbrev pub dataEnd : Link → ℕ → List ℕ → Moved
-dataEnd l b s =
-    pick (eqb (dataStep (dataStep (dataRun dataStart (take (lengthOf (l .head)) s)) (l .first)) b) dataLeft)
-    (moved l Hunting Frame) (moved l Hunting (Damage 3))
+-- what the check of the data and of both check octets, the second of them b, leaves
+abbrev pub dataLeaves : Link → ℕ → List ℕ → ℕ
+dataLeaves l b s = dataStep (dataStep (dataRun dataStart (take (lengthOf (l .head)) s)) (l .first)) b
+
+-- "Bad data check is damage 3"; else it is a good frame's end
+abbrev pub dataEnd : Link → ℕ → Moved
+dataEnd l left = pick (eqb left dataLeft) (moved l Hunting Frame) (moved l Hunting (Damage 3))
 
 -- "Data octets are stored as they come", then two check octets; got of all these are there
 abbrev pub dataOctet : Link → ℕ → ℕ → List ℕ → Stepped
@@ -76,7 +82,7 @@ dataOctet l got b s =
     (whole (moved l (Data (got + 1)) Quiet) (set s got b))
     (whole (pick (eqb got (lengthOf (l .head)))
     (record { outcome = Quiet; link = record { phase = Data (got + 1); head = l .head; first = b } })
-    (dataEnd l b s)) s)
+    (dataEnd l (dataLeaves l b s))) s)
 
 -- "Hunting: 55 leads to "preamble"; there FF leads to the header, 55 stays, all else goes back to hunting."
 abbrev pub stepIn : Phase → Link → ℕ → List ℕ → Stepped

@@ -3,7 +3,7 @@ ghost use mathlib.Core.Path.{_≡_};
 ghost use mathlib.Core.Bool.{true};
 ghost use lib.ListN.{length};
 ghost use Prim.Native.Nat.{_<_};
-ghost use Rattle.frames.specs.Step.{made, whole, moved, headerOctet, dataOctet, stepOf, silenceIn, reportsOf, lengthOf, DataLeft, soundIn, soundOf, freshOf, feedOf, silenceOf};
+ghost use Rattle.frames.specs.Step.{made, whole, moved, headerEnd, headerOctet, dataEnd, dataOctet, stepOf, silenceIn, reportsOf, lengthOf, DataLeft, soundIn, soundOf, freshOf, feedOf, silenceOf};
 
 // Where the receiver is; header and data with the count of their octets that came.
 pub enum Phase {
@@ -83,6 +83,22 @@ impl Link {
         Moved { outcome, link: l }
     }
 
+    // The header is whole: what its check leaves, and the data length that it gives.
+    fn header_end(self, left: u8, n: u16) -> Moved
+        ensures { λ r. ⌜ r ≡ headerEnd self left n ⌝ }
+    {
+        if left != 0x55 {
+            return self.go(Phase::Hunting, Outcome::Damage(1));
+        }
+        if 501 < n {
+            return self.go(Phase::Hunting, Outcome::Damage(2));
+        }
+        if n == 0 {
+            return self.go(Phase::Hunting, Outcome::Frame);
+        }
+        self.go(Phase::Data(0), Outcome::Quiet)
+    }
+
     fn header_octet(self, got: u8, b: u8) -> Moved
         requires { ⌜ got < 6 ⌝ }
         ensures { λ r. ⌜ r ≡ headerOctet self got b ⌝ }
@@ -95,17 +111,19 @@ impl Link {
             return q.go(Phase::Header(next), Outcome::Quiet);
         }
         let h = self.head;
-        if sums::header_step(sums::header_run(0xFF, &h), b) != 0x55 {
-            return self.go(Phase::Hunting, Outcome::Damage(1));
+        let left = sums::header_step(sums::header_run(0xFF, &h), b);
+        self.header_end(left, length_of(h))
+    }
+
+    // The data is whole: what its check leaves.
+    fn data_end(self, left: u16) -> Moved
+        ensures { λ r. ⌜ r ≡ dataEnd self left ⌝ }
+    {
+        if left == 0xF0B8 {
+            self.go(Phase::Hunting, Outcome::Frame)
+        } else {
+            self.go(Phase::Hunting, Outcome::Damage(3))
         }
-        let n = length_of(h);
-        if 501 < n {
-            return self.go(Phase::Hunting, Outcome::Damage(2));
-        }
-        if n == 0 {
-            return self.go(Phase::Hunting, Outcome::Frame);
-        }
-        self.go(Phase::Data(0), Outcome::Quiet)
     }
 
     fn data_octet(self, got: u16, b: u8, store: &mut [u8]) -> Moved
@@ -127,10 +145,7 @@ impl Link {
         }
         let m = n as usize;
         let reg = sums::data_run(0xFFFF, &store[..m]);
-        if sums::data_step(sums::data_step(reg, self.first), b) == 0xF0B8 {
-            return self.go(Phase::Hunting, Outcome::Frame);
-        }
-        self.go(Phase::Hunting, Outcome::Damage(3))
+        self.data_end(sums::data_step(sums::data_step(reg, self.first), b))
     }
 
     fn step(self, b: u8, store: &mut [u8]) -> Moved
@@ -175,10 +190,10 @@ impl Link {
                 if n == 0 {
                     return false;
                 }
-                if 501 < n {
-                    return false;
+                if n <= 501 {
+                    return got < n + 2;
                 }
-                got < n + 2
+                false
             }
         }
     }
@@ -226,8 +241,7 @@ impl Receiver {
         ensures { λ r. ⌜ r ≡ feedOf self (now (piece .entry)) ⌝ }
     {
         let mut link = self.link;
-        if link.sound() {
-        } else {
+        if link.sound() {} else {
             return Fed {
                 refused: 59,
                 eaten: 0,
@@ -253,7 +267,7 @@ impl Receiver {
         }
         Fed {
             refused: 0,
-            eaten: i,
+            eaten: piece.len(),
             outcome: Outcome::Quiet,
             receiver: Receiver { link, store },
         }
@@ -264,8 +278,7 @@ impl Receiver {
         ensures { λ r. ⌜ r ≡ silenceOf self ⌝ }
     {
         let link = self.link;
-        if link.sound() {
-        } else {
+        if link.sound() {} else {
             return Fell {
                 refused: 59,
                 outcome: Outcome::Quiet,

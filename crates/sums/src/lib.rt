@@ -1,15 +1,17 @@
 // The two check sums of Annex G. Callers run them over slices, so that tables can stand behind the same promises.
 ghost use mathlib.Core.Path.{_≡_};
 ghost use Prim.Native.Nat.{_<_};
-ghost use Rattle.sums.specs.Sums.{headerMix, headerStep, headerRun, headerCheck, dataBit, dataStep, dataRun, dataSent};
+ghost use Rattle.sums.specs.Sums.{headerMix, headerStep, headerRun, headerCheck, dataBits, dataStep, dataRun, dataSent};
 
-// Each bit with all bits below it: what is shifted up piles up, and the last shift leaves bit 0's parity at bit 8.
+// Each bit with all the bits below it: shifts by 1, 2 and 4 pile up the seven lower bits, and bit 8 then has bits 1 to 7.
 fn mix(v: u8) -> u8
     ensures { λ r. ⌜ r ≡ headerMix v ⌝ }
 {
     let w = v as u16;
-    let c = w ^ (w * 2) ^ (w * 4) ^ (w * 8) ^ (w * 16) ^ (w * 32) ^ (w * 64) ^ (w * 128);
-    ((c / 2 % 128 * 2) + (c / 256 % 2)) as u8
+    let pairs = w ^ (w * 2);
+    let fours = pairs ^ (pairs * 4);
+    let eights = fours ^ (fours * 16);
+    ((eights / 2 % 128 * 2) + (eights / 256 % 2)) as u8
 }
 
 // One octet of a header.
@@ -39,17 +41,21 @@ pub fn header_check(s: &[u8]) -> u8
     255 - header_run(0xFF, s)
 }
 
-fn bit(c: u16) -> u16
-    ensures { λ r. ⌜ r ≡ dataBit c ⌝ }
+// What eight bits leave in the register when they have fallen out of it.
+fn fallen(v: u8) -> u16
+    ensures { λ r. ⌜ r ≡ dataBits 8 v ⌝ }
 {
-    (c / 2) ^ (c % 2 * 0x8408)
+    let w = v as u16;
+    let x = w ^ (w % 16 * 16);
+    (x * 256) ^ (x * 8) ^ (x / 16)
 }
 
 // One octet of data.
 pub fn data_step(reg: u16, octet: u8) -> u16
     ensures { λ r. ⌜ r ≡ dataStep reg octet ⌝ }
 {
-    bit(bit(bit(bit(bit(bit(bit(bit(reg ^ (octet as u16)))))))))
+    let v = reg ^ (octet as u16);
+    (v / 256) ^ fallen((v % 256) as u8)
 }
 
 // A run of data octets.
