@@ -1,12 +1,11 @@
 -- Readings that are computed.
 use mathlib.Core.Path.{_≡_, refl}
 use mathlib.Core.List.{List, [], _∷_, _++_}
-use mathlib.Core.Option.{Option, none, some}
-use Prim.Native.Nat.{ℕ, _+_}
+use Prim.Native.Nat.{ℕ}
 use lib.ListN.{replicate}
 use Rattle.octets.specs.Splice.{splice}
-use Rattle.sums.specs.Sums.{headerMix, dataBit, dataBits}
-use Rattle.runs.specs.Run.{Event, Trace, octs, ends}
+use Rattle.sums.specs.Sums.{headerMix, headerCheck, dataBit, dataBits, dataSent, dataCheck}
+use Rattle.runs.specs.Run.{octs, ends}
 use Rattle.runs.specs.Run.Event.{octet, silence}
 use Rattle.runs.specs.Run.Trace.{told, final}
 use Rattle.runs.specs.Offered.{Offered}
@@ -15,6 +14,7 @@ use Rattle.frames.specs.declared.Phase.the-variants.{Hunting, Preamble}
 use Rattle.frames.specs.Step.{made, freshOf, lengthOf, stepOf, feedOf}
 use Rattle.trunk.specs.Reading.{came, readingOf, readFrom}
 use Rattle.trunk.specs.Reading.Out.{good, damage}
+use Rattle.trunk.specs.Layout.{headOf, frameOctets}
 use Rattle.trunk.specs.Demand.{bare}
 
 -- the page's whole case
@@ -33,6 +33,15 @@ long = 0x55 ∷ 0xFF ∷ (header3 ++ (0xD9 ∷ 0x01 ∷ 0x02 ∷ 0x03 ∷ []))
 
 abbrev stored : List ℕ
 stored = 0x01 ∷ 0x02 ∷ 0x03 ∷ replicate 498 0
+
+-- what stands on the wire is the layout
+pub short-layout : short ≡ frameOctets 0x01 0x02 0x01 []
+unfolding frameOctets headOf headerCheck headerMix
+short-layout = refl
+
+pub long-layout : long ++ (0x3B ∷ 0x9D ∷ []) ≡ frameOctets 0x05 0x01 0x02 (0x01 ∷ 0x02 ∷ 0x03 ∷ [])
+unfolding frameOctets headOf headerCheck headerMix dataCheck dataSent dataBits dataBit
+long-layout = refl
 
 -- the whole case behind 55; then a header cut by a silence; then 55
 pub behind-55 : readFrom freshOf (came (0x55 ∷ (short ++ (0x55 ∷ 0xFF ∷ 0x07 ∷ []))) ++ (silence ∷ octet 0x55 ∷ []))

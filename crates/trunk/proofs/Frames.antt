@@ -21,7 +21,7 @@ use Rattle.frames.specs.declared.Receiver.{Receiver}
 use Rattle.frames.specs.Step.{most, lengthOf, Stepped}
 use Rattle.trunk.specs.Reading.{Kept, at, readingOf, came, keptOf, heldOf}
 use Rattle.trunk.specs.Reading.Out.{good}
-use Rattle.trunk.specs.Layout.{headOf, dataPart, frameOctets, Bytes, idle, FrameAt}
+use Rattle.trunk.specs.Layout.{headOf, dataPart, frameOctets, Framed, Bytes, idle, FrameAt}
 use Rattle.trunk.specs.Demand.{outOf, Sound}
 use Rattle.trunk.proofs.Spans.{came-two, length-came}
 use Rattle.trunk.proofs.Reading.{on, machine, steps, by-position}
@@ -48,22 +48,25 @@ module _ (w : Kept) (lh : length (w .head) ≡ 5) (ls : length (w .store) ≡ mo
   complete : (es : List Event) → Bytes es → (q : ℕ) (h d : List ℕ) → FrameAt w es q h d → ended q (readingOf w es) ≡ some (good h d)
   unfolding frameOctets
   complete es bs q h d f =
-      let hd = headOf (f .kind) (f .to) (f .from) (length d) in
+      let g = f .frame in
+      let hd = headOf (g .kind) (g .to) (g .from) (length d) in
       let body = hd ++ (headerCheck hd ∷ dataPart d) in
-      let fo = frameOctets (f .kind) (f .to) (f .from) d in
+      let fo = frameOctets (g .kind) (g .to) (g .from) d in
       let r = after start (f .front) in
       let so = sound-after (f .front) start sound-start in
+      let stands : es ≡ f .front ++ (came fo ++ f .rest) = f .stands ∙ ap (λ (l : List ℕ). f .front ++ (came l ++ f .rest)) (g .layout) in
+      let ends : length (f .front) + length fo ≡ q + 1 = ap (λ (l : List ℕ). length (f .front) + length l) (sym (g .layout)) ∙ f .ends in
       let l : length body ≡ 6 + length (dataPart d) = rw (length-append, length-headOf) (omega arith) in
-      let n : q ≡ 0 + length (f .front) + 1 + 1 + 5 + length (dataPart d) = omega (arith, f .ends) in
+      let n : q ≡ 0 + length (f .front) + 1 + 1 + 5 + length (dataPart d) = omega arith in
       let free : idle (r .link .phase) ≡ true = rw (← last-read (f .front)) (f .free) in
-      let octets : Octets fo = bytes-came fo (f .rest) (bytes-behind (f .front) (came fo ++ f .rest) (rw (← f .stands) bs)) in
-      let inside : Octets d = octets-data d (λ i. octets-right hd (headerCheck hd ∷ dataPart d) (λ j. octets (suc (suc j))) (suc i)) in
-      ap (ended q) (stepped es ∙ ap (steps 0 start) (f .stands))
-      ∙ front-passed (f .front) (came fo ++ f .rest) 0 q start (omega (arith, f .ends))
+      let os : Octets fo = bytes-came fo (f .rest) (bytes-behind (f .front) (came fo ++ f .rest) (subst Bytes stands bs)) in
+      let inside : Octets d = octets-data d (λ i. octets-right hd (headerCheck hd ∷ dataPart d) (λ j. os (suc (suc j))) (suc i)) in
+      ap (ended q) (stepped es ∙ ap (steps 0 start) stands)
+      ∙ front-passed (f .front) (came fo ++ f .rest) 0 q start (omega arith)
       ∙ ap (ended q) (opens (r .link .phase) (keptOf r) (0 + length (f .front)) (came body ++ f .rest) free)
       ∙ ap (λ (i : ℕ). ended i (steps (0 + length (f .front) + 1 + 1) (at (Header 0) (keptOf r)) (came body ++ f .rest))) n
-      ∙ frame-ends (f .kind) (f .to) (f .from) d (r .link .head) (r .link .first) (r .store) (0 + length (f .front) + 1 + 1) (f .rest) inside (f .fits) (so .head) (so .store)
-      ∙ ap (λ (l : List ℕ). some (good l d)) (sym (f .head))
+      ∙ frame-ends (g .kind) (g .to) (g .from) d (r .link .head) (r .link .first) (r .store) (0 + length (f .front) + 1 + 1) (f .rest) inside (g .fits) (so .head) (so .store)
+      ∙ ap (λ (l : List ℕ). some (good l d)) (sym (g .head))
 
   -- the trunk up to here ends in the octets that the state holds, and before them no frame was open
   pub record Reached (past : List Event) (r : Receiver) : Type 0 where
@@ -84,6 +87,21 @@ module _ (w : Kept) (lh : length (w .head) ≡ 5) (ls : length (w .store) ≡ mo
   snoc-held past pre xs ys x e f =
       rw (e, f, append-assoc pre (came xs) (octet x ∷ [])) (ap (λ (l : List Event). pre ++ l) (sym (came-two xs (x ∷ []))))
 
+  ended-here : (past es : List Event) (r : Receiver) (x : ℕ) (v : Kept) (q : ℕ) → Reached past r → Framed (heldOf r ++ (x ∷ [])) (v .head) (take (lengthOf (v .head)) (v .store))
+      → length past ≡ q → FrameAt w (past ++ (octet x ∷ es)) q (v .head) (take (lengthOf (v .head)) (v .store))
+  ended-here past es r x v q R g p =
+      let xs = heldOf r ++ (x ∷ []) in
+      let up : past ++ (octet x ∷ []) ≡ R .pre ++ came xs = snoc-held past (R .pre) (heldOf r) xs x (R .held) refl in
+      record {
+        octets = xs;
+        frame = g;
+        front = R .pre;
+        rest = es;
+        stands = sym (append-assoc past (octet x ∷ []) es) ∙ ap (λ (l : List Event). l ++ es) up ∙ append-assoc (R .pre) (came xs) es;
+        ends = ap (λ (n : ℕ). length (R .pre) + n) (sym (length-came xs)) ∙ sym (length-append (R .pre) (came xs)) ∙ ap length (sym up) ∙ length-append past (octet x ∷ []) ∙ ap (λ (n : ℕ). n + 1) p;
+        free = rw (last-read (R .pre)) (R .free);
+      }
+
   -- one event on: a frame ends there, or it comes later
   onward : (past es : List Event) (r : Receiver) {e : Event} {t : Stepped} (q : ℕ) (h d : List ℕ) → on r e ≡ t → Reached past r → Turn (r .link .phase) (keptOf r) e t
       → (Reached (past ++ (e ∷ [])) (t .receiver) → ended q (steps (length past + 1) (t .receiver) es) ≡ some (good h d) → FrameAt w (past ++ (e ∷ es)) q h d)
@@ -96,27 +114,21 @@ module _ (w : Kept) (lh : length (w .head) ≡ 5) (ls : length (w .store) ≡ mo
   onward past es r q h d same R (grows x r′ more) later eq =
       later (record {
         here = now past r (octet x) r′ (R .here) (ap (λ (t : Stepped). t .receiver) same);
-        pre = R .pre; held = snoc-held past (R .pre) (heldOf r) (heldOf r′) x (R .held) more; free = R .free
+        pre = R .pre;
+        held = snoc-held past (R .pre) (heldOf r) (heldOf r′) x (R .held) more;
+        free = R .free;
       }) eq
-  onward past es r q h d same R (ends x v F) later eq =
+  onward past es r q h d same R (ends x v g) later eq =
       let d′ = take (lengthOf (v .head)) (v .store) in
-      let fo = frameOctets (F .kind) (F .to) (F .from) d′ in
-      let t = steps (length past + 1) (at Hunting v) es in
       ⊎-elim
       (λ c.
-          let p : length past ≡ q = eqb-true (length past) q (c .0) in
-          let sh : v .head ≡ h = cc (c .1) in
-          let sd : d′ ≡ d = cc (c .1) in
-          let up : past ++ (octet x ∷ []) ≡ R .pre ++ came fo = snoc-held past (R .pre) (heldOf r) fo x (R .held) (sym (F .layout)) in
-          let long : length past + 1 ≡ length (R .pre) + length fo = sym (length-append past (octet x ∷ [])) ∙ ap length up ∙ length-append (R .pre) (came fo) ∙ ap (λ (n : ℕ). length (R .pre) + n) (length-came fo) in
-          let f : FrameAt w (past ++ (octet x ∷ es)) q (v .head) d′ = record {
-            kind = F .kind; to = F .to; from = F .from; front = R .pre; rest = es; head = F .head; fits = F .fits;
-            stands = sym (append-assoc past (octet x ∷ []) es) ∙ ap (λ (l : List Event). l ++ es) up ∙ append-assoc (R .pre) (came fo) es;
-            ends = sym long ∙ ap (λ (n : ℕ). n + 1) p; free = rw (last-read (R .pre)) (R .free)
-          } in
-          subst (λ (l : List ℕ). FrameAt w (past ++ (octet x ∷ es)) q h l) sd (subst (λ (l : List ℕ). FrameAt w (past ++ (octet x ∷ es)) q l d′) sh f))
+      let p : length past ≡ q = eqb-true (length past) q (c .0) in
+      let sh : v .head ≡ h = cc (c .1) in
+      let sd : d′ ≡ d = cc (c .1) in
+      let f = ended-here past es r x v q R g p in
+      subst (λ (l : List ℕ). FrameAt w (past ++ (octet x ∷ es)) q h l) sd (subst (λ (l : List ℕ). FrameAt w (past ++ (octet x ∷ es)) q l d′) sh f))
       (λ c. later (reach-hunting past r (octet x) v (R .here) (ap (λ (t : Stepped). t .receiver) same)) (c .1))
-      (pick-which (eqb (length past) q) (some (good (v .head) d′)) (ended q t) (some (good h d)) eq)
+      (pick-which (eqb (length past) q) (some (good (v .head) d′)) (ended q (steps (length past + 1) (at Hunting v) es)) (some (good h d)) eq)
 
   sound : (es past : List Event) (r : Receiver) → Reached past r → Bytes (past ++ es) → (q : ℕ) (h d : List ℕ) → ended q (steps (length past) r es) ≡ some (good h d) → FrameAt w (past ++ es) q h d
   sound [] past r R bs q h d eq = absurd (no-some (good h d) eq)
@@ -129,8 +141,8 @@ module _ (w : Kept) (lh : length (w .head) ≡ 5) (ls : length (w .store) ≡ mo
       let far : length past + 1 ≡ length (past ++ (e ∷ [])) = sym (length-append past (e ∷ [])) in
       onward past es r q h d refl R (turn (r .link .phase) (r .link .head) (r .link .first) (r .store) e (so .left) (so .head) (so .store) os one)
       (λ R′ eq′. subst (λ (l : List Event). FrameAt w l q h d) (append-assoc past (e ∷ []) es)
-        (sound es (past ++ (e ∷ [])) r′ R′ (subst Bytes (sym (append-assoc past (e ∷ []) es)) bs) q h d
-        (subst (λ (n : ℕ). ended q (steps n r′ es) ≡ some (good h d)) far eq′)))
+      (sound es (past ++ (e ∷ [])) r′ R′ (subst Bytes (sym (append-assoc past (e ∷ []) es)) bs) q h d
+      (subst (λ (n : ℕ). ended q (steps n r′ es) ≡ some (good h d)) far eq′)))
       eq
 
   -- An outcome of the reading is a good frame with head h and data d exactly when, from its preamble to the place where it ends, the octets are the

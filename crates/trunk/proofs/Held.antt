@@ -58,22 +58,22 @@ held : (got : ℕ) (h : List ℕ) (c : ℕ) (s : List ℕ) (p : ℕ) (es : List 
 held got h c s p es d ls =
     by-test (leb got (lengthOf h))
     (λ t. rw t (fill-data got 0 h c s p es (let u : got ≤ lengthOf h = leb-true got (lengthOf h) t in omega arith) (omega (arith, d .fits))
-        ∙ ap (λ (g : ℕ). steps (p + got) (at (Data g) (kept h c s)) es) (omega arith)))
+    ∙ ap (λ (g : ℕ). steps (p + got) (at (Data g) (kept h c s)) es) (omega arith)))
     (λ t.
-        let u : lengthOf h < got = leb-false got (lengthOf h) t in
-        let e : got ≡ lengthOf h + 1 = omega (arith, d .left) in
-        rw (t, came-append (take (lengthOf h) s) (c ∷ []) es)
-        (fill-data (lengthOf h) 0 h c s p (octet c ∷ es) (omega arith) (omega (arith, d .fits))
-        ∙ rw (zero-add (lengthOf h), le-ltb (lengthOf h) (lengthOf h) (omega arith), eq-eqb (lengthOf h) (lengthOf h) refl, e)
-          (ap (λ (q : ℕ). steps q (at (Data (lengthOf h + 1)) (kept h c s)) es) (omega arith))))
+    let u : lengthOf h < got = leb-false got (lengthOf h) t in
+    let e : got ≡ lengthOf h + 1 = omega (arith, d .left) in
+    rw (t, came-append (take (lengthOf h) s) (c ∷ []) es)
+    (fill-data (lengthOf h) 0 h c s p (octet c ∷ es) (omega arith) (omega (arith, d .fits))
+    ∙ rw (zero-add (lengthOf h), le-ltb (lengthOf h) (lengthOf h) (omega arith), eq-eqb (lengthOf h) (lengthOf h) refl, e)
+    (ap (λ (q : ℕ). steps q (at (Data (lengthOf h + 1)) (kept h c s)) es) (omega arith))))
 
 held-length : (got : ℕ) (h : List ℕ) (c : ℕ) (s : List ℕ) → DataLeft got (lengthOf h) → length s ≡ most → length (dataHeld got (kept h c s)) ≡ got
 held-length got h c s d ls =
     by-test (leb got (lengthOf h))
     (λ t. let u : got ≤ lengthOf h = leb-true got (lengthOf h) t in rw t (length-take-le got s (omega (arith, d .fits))))
     (λ t.
-        let u : lengthOf h < got = leb-false got (lengthOf h) t in
-        rw t (simp length-append (omega (arith, d .left, length-take-le (lengthOf h) s (omega (arith, d .fits))))))
+    let u : lengthOf h < got = leb-false got (lengthOf h) t in
+    rw t (simp length-append (omega (arith, d .left, length-take-le (lengthOf h) s (omega (arith, d .fits))))))
 
 -- from hunting, the octets that a state holds lead to that state
 pub holds : (ph : Phase) (h : List ℕ) (c : ℕ) (s : List ℕ) (q : ℕ) (es : List Event) → soundIn ph h ≡ true → length h ≡ 5 → length s ≡ most

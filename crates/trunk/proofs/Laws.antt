@@ -5,26 +5,26 @@ use mathlib.Core.List.{List, [], _∷_, _++_}
 use mathlib.Core.Logic.{_↔_}
 use mathlib.Core.Option.{some}
 use Prim.Native.Nat.{ℕ, suc, _+_, _<_, _≤_}
-use lib.Dec.{eqb, ltb}
+use native.Mathlib.Nat.{le-refl}
 use lib.ListN.{length}
 use borrow.Author.Tests.{eq-eqb, ne-eqb, lt-ltb}
 use Rattle.octets.specs.Choice.{both, by-test}
 use Rattle.sums.specs.Sums.{headerRun, headerStart, headerLeft}
-use Rattle.runs.specs.Run.{Event, Run, Trace, ended, Rules, Ends}
+use Rattle.runs.specs.Run.{Event, Run, ended, Rules, Ends}
 use Rattle.runs.specs.Run.Event.{octet, silence}
 use Rattle.runs.specs.Run.Trace.{told, final}
 use Rattle.runs.specs.Offered.{Offered}
 use Rattle.frames.specs.declared.Phase.{Phase}
 use Rattle.frames.specs.declared.Phase.the-variants.{Hunting, Preamble, Header, Data}
 use Rattle.frames.specs.declared.Receiver.{Receiver}
-use Rattle.frames.specs.Step.{most, lengthOf, soundOf, feedOf, silenceOf}
+use Rattle.frames.specs.Step.{most, lengthOf, freshOf, soundOf, feedOf, silenceOf}
 use Rattle.trunk.specs.Reading.{Out, Kept, at, withHead, find, span, readN, came, keptOf, heldOf, readFrom}
 use Rattle.trunk.specs.Reading.Out.{good, damage}
 use Rattle.trunk.specs.Reading.Found.{found}
 use Rattle.trunk.specs.Reading.Span.{full}
 use Rattle.trunk.specs.Layout.{Bytes, idle, FrameAt}
 use Rattle.trunk.specs.Demand.{boxOf, unmoved, Sound, bare}
-use Rattle.trunk.proofs.Reading.{steps}
+use Rattle.trunk.proofs.Reading.{steps, by-position}
 use Rattle.trunk.proofs.Held.{from-state}
 use Rattle.trunk.proofs.Demand.{receiver-by-position}
 use Rattle.trunk.proofs.Frames.{frames-exactly}
@@ -67,6 +67,15 @@ silence-hurts r so i = sym (from-state r (silence ∷ []) so) ∙ hurt (r .link 
 pub cut-anywhere : {r : Receiver} {run : Run} {e e′ : Ends Receiver Unit Unit Out} → Sound r
     → Offered bare (length (heldOf r)) r tt tt run e → Offered bare (length (heldOf r)) r tt tt run e′ → e ≡ e′
 cut-anywhere so o o′ = receiver-by-position so o ∙ sym (receiver-by-position so o′)
+
+-- the bound on preambles bounds nothing: any that is not below the events that are left gives the same reading
+pub bound-free : (w : Kept) (p m : ℕ) (es : List Event) → length (w .head) ≡ 5 → length (w .store) ≡ most → length es ≤ m → readN m p w es ≡ readN (length es) p w es
+bound-free w p m es lh ls l =
+    sym (by-position m (w .head) (w .first) (w .store) p es lh ls l) ∙ by-position (length es) (w .head) (w .first) (w .store) p es lh ls (le-refl (length es))
+
+-- a fresh receiver passes
+pub sound-fresh : Sound freshOf
+sound-fresh = record { left = refl; head = refl; store = refl }
 
 -- frames exactly, read on from a state
 pub frames-from : (r : Receiver) → Sound r → (es : List Event) → Bytes (came (heldOf r) ++ es) → (q : ℕ) (h d : List ℕ)

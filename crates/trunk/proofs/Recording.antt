@@ -91,4 +91,3 @@ after-snoc (f ∷ es) e r = after-snoc es e (machine .next r f)
 pub sound-after : (es : List Event) (r : Receiver) → Sound r → Sound (after r es)
 sound-after [] r h = h
 sound-after (e ∷ es) r h = sound-after es (machine .next r e) (sound-on r e h)
-

@@ -78,7 +78,7 @@ over-first h xs b c s l = rw (getD-any xs (lengthOf h) b c l)
 header-over : (k : Read) (v w : Kept) (pre : List ℕ) (sp : Span) → ((xs : List ℕ) → withHead (pre ++ xs) v ≡ withHead (pre ++ xs) w)
     → afterHeader k v (prefixed pre sp) ≡ afterHeader k w (prefixed pre sp)
 header-over k v w pre (full xs q es) e = ap (λ (w : Kept). judged k w (pre ++ xs) q es) (e xs)
-header-over k v w pre (cut xs q es) e = ap (λ (w : Kept). told q (damage 4) (k (q + 1) w es)) (e xs)
+header-over k v w pre (cut xs q es) e = rw (e xs)
 header-over k v w pre (open-ended xs) e = ap (λ (w : Kept). final (at (Header (length (pre ++ xs))) w)) (e xs)
 
 -- and so does the reading of data, with one head
@@ -86,7 +86,7 @@ data-over : (k : Read) (h : List ℕ) (b c : ℕ) (s t pre : List ℕ) (sp : Spa
     → afterData k (kept h b s) (prefixed pre sp) ≡ afterData k (kept h c t) (prefixed pre sp)
 data-over k h b c s t pre (full xs q es) e =
     ap (λ (w : Kept). told q (pick (eqb (dataRun dataStart (pre ++ xs)) dataLeft) (good h (take (lengthOf h) (pre ++ xs))) (damage 3)) (k (q + 1) w es)) (e xs)
-data-over k h b c s t pre (cut xs q es) e = ap (λ (w : Kept). told q (damage 4) (k (q + 1) w es)) (e xs)
+data-over k h b c s t pre (cut xs q es) e = rw (e xs)
 data-over k h b c s t pre (open-ended xs) e = ap (λ (w : Kept). final (at (Data (length (pre ++ xs))) w)) (e xs)
 
 -- an octet that pre has is laid already: in the head, in the store, as the first check octet

@@ -69,13 +69,22 @@ judge k kind to from (x ∷ d) c s q es os fits =
     let xs = x ∷ d in
     let n = length xs in
     let l : length (xs ++ dataCheck xs) ≡ n + 1 + 1 = simp (length-append, length-check) (omega arith) in
-    rw (header-good (headOf kind to from n), lengthOf-headOf kind to from n, le-ltb most n fits, ne-eqb n 0 (omega arith), span-full (n + 1) (q + 1) (xs ++ dataCheck xs) es l,
-        data-good xs os, lengthOf-headOf kind to from n, take-at xs (dataCheck xs) n refl, eq-eqb (q + 1 + (n + 1)) (q + length (xs ++ dataCheck xs)) (omega arith))
+    rw (
+      header-good (headOf kind to from n),
+      lengthOf-headOf kind to from n,
+      le-ltb most n fits,
+      ne-eqb n 0 (omega arith),
+      span-full (n + 1) (q + 1) (xs ++ dataCheck xs) es l,
+      data-good xs os,
+      lengthOf-headOf kind to from n,
+      take-at xs (dataCheck xs) n refl,
+      eq-eqb (q + 1 + (n + 1)) (q + length (xs ++ dataCheck xs)) (omega arith),
+    )
 
 -- and what follows a preamble
 pub frame-ends : (kind to from : ℕ) (d h₀ : List ℕ) (c : ℕ) (s : List ℕ) (p : ℕ) (es : List Event) → Octets d → length d ≤ most → length h₀ ≡ 5 → length s ≡ most
     → (let h = headOf kind to from (length d) in
-       ended (p + 5 + length (dataPart d)) (steps p (at (Header 0) (kept h₀ c s)) (came (h ++ (headerCheck h ∷ dataPart d)) ++ es)) ≡ some (good h d))
+    ended (p + 5 + length (dataPart d)) (steps p (at (Header 0) (kept h₀ c s)) (came (h ++ (headerCheck h ∷ dataPart d)) ++ es)) ≡ some (good h d))
 frame-ends kind to from d h₀ c s p es os fits lh ls =
     let h = headOf kind to from (length d) in
     let six = h ++ (headerCheck h ∷ []) in
@@ -90,4 +99,3 @@ frame-ends kind to from d h₀ c s p es os fits lh ls =
     ap (λ (l : List Event). ended (p + 5 + length (dataPart d)) (steps p (at (Header 0) (kept h₀ c s)) l)) split
     ∙ ap (ended (p + 5 + length (dataPart d))) (read ∙ ap (afterHeader (readN m) (kept h₀ c s)) (prefixed-none (span 5 p all) ∙ spans))
     ∙ rw own (judge (readN m) kind to from d c s (p + 5) es os fits)
-

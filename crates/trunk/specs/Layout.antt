@@ -28,6 +28,15 @@ frameOctets kind to from d =
     let h = headOf kind to from (length d) in
     0x55 ∷ 0xFF ∷ (h ++ (headerCheck h ∷ dataPart d))
 
+-- the octets xs are a frame with head h and data d, "a frame store of 501 octets" at most
+pub record Framed (xs h d : List ℕ) : Type 0 where
+  pub kind : ℕ
+  pub to : ℕ
+  pub from : ℕ
+  pub head : h ≡ headOf kind to from (length d)
+  pub fits : length d ≤ most
+  pub layout : xs ≡ frameOctets kind to from d
+
 -- the octets of a recording are octets
 abbrev pub Bytes : List Event → Type 0
 Bytes [] = Unit
@@ -41,16 +50,13 @@ idle Preamble = true
 idle (Header got) = false
 idle (Data got) = false
 
--- In the recording es, read from what is kept in w, a frame with head h and data d ends at place q: its octets stand there from 55 FF to q, its
--- data fit, and where it begins no other frame is open.
+-- In the recording es, read from what is kept in w, a frame with head h and data d ends at place q: its octets stand there from 55 FF to q, and
+-- where it begins no other frame is open.
 pub record FrameAt (w : Kept) (es : List Event) (q : ℕ) (h d : List ℕ) : Type 0 where
-  pub kind : ℕ
-  pub to : ℕ
-  pub from : ℕ
+  pub octets : List ℕ
+  pub frame : Framed octets h d
   pub front : List Event
   pub rest : List Event
-  pub head : h ≡ headOf kind to from (length d)
-  pub fits : length d ≤ most
-  pub stands : es ≡ front ++ (came (frameOctets kind to from d) ++ rest)
-  pub ends : length front + length (frameOctets kind to from d) ≡ q + 1
+  pub stands : es ≡ front ++ (came octets ++ rest)
+  pub ends : length front + length octets ≡ q + 1
   pub free : idle (last (readingOf w front) .link .phase) ≡ true
