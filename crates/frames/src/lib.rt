@@ -255,12 +255,12 @@ impl Receiver {
             let m = link.step(piece[i], &mut store);
             i += 1;
             link = m.link;
-            let o = m.outcome;
-            if reports(o) {
+            let ended = m.outcome;
+            if reports(ended) {
                 return Fed {
                     refused: 0,
                     eaten: i,
-                    outcome: o,
+                    outcome: ended,
                     receiver: Receiver { link, store },
                 };
             }
@@ -286,13 +286,13 @@ impl Receiver {
             };
         }
         let m = link.silenced();
-        let o = m.outcome;
-        let l = m.link;
-        let s = self.store;
+        let outcome = m.outcome;
+        let link = m.link;
+        let store = self.store;
         Fell {
             refused: 0,
-            outcome: o,
-            receiver: Receiver { link: l, store: s },
+            outcome,
+            receiver: Receiver { link, store },
         }
     }
 }
