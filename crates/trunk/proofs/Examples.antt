@@ -14,7 +14,7 @@ use Rattle.frames.specs.declared.Phase.the-variants.{Hunting, Preamble}
 use Rattle.frames.specs.Step.{made, freshOf, lengthOf, stepOf, feedOf}
 use Rattle.trunk.specs.Reading.{came, readingOf, readFrom}
 use Rattle.trunk.specs.Reading.Out.{good, damage}
-use Rattle.trunk.specs.Layout.{headOf, frameOctets}
+use Rattle.frames.specs.Layout.{headOf, frameOctets}
 use Rattle.trunk.specs.Demand.{bare}
 
 -- the page's whole case

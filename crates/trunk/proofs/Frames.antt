@@ -21,7 +21,8 @@ use Rattle.frames.specs.declared.Receiver.{Receiver}
 use Rattle.frames.specs.Step.{most, lengthOf, Stepped}
 use Rattle.trunk.specs.Reading.{Kept, at, readingOf, came, keptOf, heldOf}
 use Rattle.trunk.specs.Reading.Out.{good}
-use Rattle.trunk.specs.Layout.{headOf, dataPart, frameOctets, Framed, Bytes, idle, FrameAt}
+use Rattle.frames.specs.Layout.{headOf, dataPart, frameOctets}
+use Rattle.trunk.specs.Frames.{Framed, Bytes, idle, FrameAt}
 use Rattle.trunk.specs.Demand.{outOf, Sound}
 use Rattle.trunk.proofs.Spans.{came-two, length-came}
 use Rattle.trunk.proofs.Reading.{on, machine, steps, by-position}

@@ -22,7 +22,7 @@ use Rattle.trunk.specs.Reading.{Out, Kept, at, withHead, find, span, rea
 use Rattle.trunk.specs.Reading.Out.{good, damage}
 use Rattle.trunk.specs.Reading.Found.{found}
 use Rattle.trunk.specs.Reading.Span.{full}
-use Rattle.trunk.specs.Layout.{Bytes, idle, FrameAt}
+use Rattle.trunk.specs.Frames.{Bytes, idle, FrameAt}
 use Rattle.trunk.specs.Demand.{boxOf, unmoved, Sound, bare}
 use Rattle.trunk.proofs.Reading.{steps, by-position}
 use Rattle.trunk.proofs.Held.{from-state}

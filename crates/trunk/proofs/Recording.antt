@@ -17,7 +17,8 @@ use Rattle.runs.specs.Machine.{tell}
 use Rattle.frames.specs.declared.Receiver.{Receiver}
 use Rattle.frames.specs.Step.{lengthOf}
 use Rattle.trunk.specs.Reading.{Out, came}
-use Rattle.trunk.specs.Layout.{headOf, dataPart, Bytes}
+use Rattle.frames.specs.Layout.{headOf, dataPart}
+use Rattle.trunk.specs.Frames.{Bytes}
 use Rattle.trunk.specs.Demand.{Sound}
 use Rattle.trunk.proofs.Reading.{machine, steps}
 use Rattle.trunk.proofs.Demand.{sound-on}

@@ -23,7 +23,8 @@ use Rattle.frames.specs.Step.{most}
 use Rattle.trunk.specs.Reading.{Out, Kept, at, laid, span, Read, judged, afterHeader, readN, came}
 use Rattle.trunk.specs.Reading.Out.{good}
 use Rattle.trunk.specs.Reading.Span.{full}
-use Rattle.trunk.specs.Layout.{headOf, dataPart, idle}
+use Rattle.frames.specs.Layout.{headOf, dataPart}
+use Rattle.trunk.specs.Frames.{idle}
 use Rattle.trunk.proofs.Spans.{kept, came-append, prefixed-none}
 use Rattle.trunk.proofs.Reading.{machine, steps, header, by-position}
 use Rattle.trunk.proofs.Recording.{after, length-headOf, lengthOf-headOf}

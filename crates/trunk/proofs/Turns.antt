@@ -26,7 +26,8 @@ use Rattle.frames.specs.Step.{most, lengthOf, DataLeft, soundIn, Stepped}
 use Rattle.frames.proofs.Laws.{data-left}
 use Rattle.trunk.specs.Reading.{Out, Kept, at, dataHeld, pending, heldOf}
 use Rattle.trunk.specs.Reading.Out.{good, damage}
-use Rattle.trunk.specs.Layout.{headOf, dataPart, frameOctets, Framed, Bytes, idle}
+use Rattle.frames.specs.Layout.{headOf, dataPart, frameOctets}
+use Rattle.trunk.specs.Frames.{Framed, Bytes, idle}
 use Rattle.trunk.specs.Demand.{outOf}
 use Rattle.trunk.proofs.Spans.{kept}
 use Rattle.trunk.proofs.Reading.{on}

@@ -1,32 +1,16 @@
--- What a frame is on the wire, and where one stands in a recording.
+-- Where a frame stands in a recording.
 use mathlib.Core.Path.{_≡_}
 use mathlib.Core.Bool.{Bool, true, false}
 use mathlib.Core.List.{List, [], _∷_, _++_}
-use Prim.Native.Nat.{ℕ, _+_, _/_, _%_, _<_, _≤_}
+use Prim.Native.Nat.{ℕ, _+_, _<_, _≤_}
 use lib.ListN.{length}
-use Rattle.sums.specs.Sums.{headerCheck, dataCheck}
 use Rattle.runs.specs.Run.{Event, last}
 use Rattle.runs.specs.Run.Event.{octet, silence}
 use Rattle.frames.specs.declared.Phase.{Phase}
 use Rattle.frames.specs.declared.Phase.the-variants.{Hunting, Preamble, Header, Data}
+use Rattle.frames.specs.Layout.{headOf, frameOctets}
 use Rattle.frames.specs.Step.{most}
 use Rattle.trunk.specs.Reading.{Kept, came, readingOf}
-
--- "type, destination, source, length (2 octets, high first)"
-unfoldable pub headOf : ℕ → ℕ → ℕ → ℕ → List ℕ
-headOf kind to from n = kind ∷ to ∷ from ∷ n / 256 ∷ n % 256 ∷ []
-
--- "and, where length is not 0, the data and two check octets"
-abbrev pub dataPart : List ℕ → List ℕ
-dataPart [] = []
-dataPart (x ∷ d) = (x ∷ d) ++ dataCheck (x ∷ d)
-
--- "A frame is 55 FF, type, destination, source, length (2 octets, high first), header check, and, where length is not 0, the data and two check
--- octets."
-unfoldable pub frameOctets : ℕ → ℕ → ℕ → List ℕ → List ℕ
-frameOctets kind to from d =
-    let h = headOf kind to from (length d) in
-    0x55 ∷ 0xFF ∷ (h ++ (headerCheck h ∷ dataPart d))
 
 -- the octets xs are a frame with head h and data d, "a frame store of 501 octets" at most
 pub record Framed (xs h d : List ℕ) : Type 0 where
