@@ -1,6 +1,6 @@
 -- Reading on from a state is reading, from hunting, what it holds and then the trunk.
 use mathlib.Core.Path.{_≡_, refl, sym, ap, ap₂, _∙_}
-use mathlib.Core.Bool.{true, false}
+use mathlib.Core.Bool.{true}
 use mathlib.Core.List.{List, [], _∷_, _++_}
 use Prim.Native.Nat.{ℕ, zero, suc, _+_, _<_, _≤_}
 use native.Mathlib.Nat.{zero-add, le-refl}
@@ -18,11 +18,11 @@ use Rattle.runs.specs.Run.Event.{octet}
 use Rattle.frames.specs.declared.Phase.{Phase}
 use Rattle.frames.specs.declared.Phase.the-variants.{Hunting, Preamble, Header, Data}
 use Rattle.frames.specs.declared.Receiver.{Receiver}
-use Rattle.frames.specs.Step.{most, lengthOf, DataLeft, soundIn, soundOf}
+use Rattle.frames.specs.Step.{most, lengthOf, DataLeft, soundIn}
 use Rattle.frames.proofs.Laws.{data-left}
 use Rattle.trunk.specs.Reading.{at, readingOf, dataHeld, pending, came, keptOf, heldOf, readFrom}
 use Rattle.trunk.specs.Demand.{Sound}
-use Rattle.trunk.proofs.Spans.{kept}
+use Rattle.trunk.proofs.Spans.{kept, came-append}
 use Rattle.trunk.proofs.Reading.{steps, by-position}
 
 -- octets that are there already are laid again, and change nothing
@@ -46,10 +46,6 @@ fill-data (suc n) got h c s p es l ls =
     (fill-data n (got + 1) h c s (p + 1) es (omega arith) ls
     ∙ ap₂ (λ (q g : ℕ). steps q (at (Data g) (kept h c s)) es) (omega arith) (omega arith))
 
-pub came-append : (xs ys : List ℕ) (es : List Event) → came (xs ++ ys) ++ es ≡ came xs ++ (came ys ++ es)
-came-append [] ys es = refl
-came-append (x ∷ xs) ys es = ap (λ (l : List Event). octet x ∷ l) (came-append xs ys es)
-
 -- the check octet that a head in data had
 passed : (h : List ℕ) (c : ℕ) (s : List ℕ) (p : ℕ) (es : List Event) → 0 < lengthOf h → lengthOf h ≤ most
     → steps p (at (Header 5) (kept h c s)) (octet (headerCheck h) ∷ es) ≡ steps (p + 1) (at (Data 0) (kept h c s)) es
@@ -62,22 +58,22 @@ held : (got : ℕ) (h : List ℕ) (c : ℕ) (s : List ℕ) (p : ℕ) (es : List 
 held got h c s p es d ls =
     by-test (leb got (lengthOf h))
     (λ t. rw t (fill-data got 0 h c s p es (let u : got ≤ lengthOf h = leb-true got (lengthOf h) t in omega arith) (omega (arith, d .fits))
-        ∙ ap (λ (g : ℕ). steps (p + got) (at (Data g) (kept h c s)) es) (omega arith)))
+    ∙ ap (λ (g : ℕ). steps (p + got) (at (Data g) (kept h c s)) es) (omega arith)))
     (λ t.
-        let u : lengthOf h < got = leb-false got (lengthOf h) t in
-        let e : got ≡ lengthOf h + 1 = omega (arith, d .left) in
-        rw (t, came-append (take (lengthOf h) s) (c ∷ []) es)
-        (fill-data (lengthOf h) 0 h c s p (octet c ∷ es) (omega arith) (omega (arith, d .fits))
-        ∙ rw (zero-add (lengthOf h), le-ltb (lengthOf h) (lengthOf h) (omega arith), eq-eqb (lengthOf h) (lengthOf h) refl, e)
-          (ap (λ (q : ℕ). steps q (at (Data (lengthOf h + 1)) (kept h c s)) es) (omega arith))))
+    let u : lengthOf h < got = leb-false got (lengthOf h) t in
+    let e : got ≡ lengthOf h + 1 = omega (arith, d .left) in
+    rw (t, came-append (take (lengthOf h) s) (c ∷ []) es)
+    (fill-data (lengthOf h) 0 h c s p (octet c ∷ es) (omega arith) (omega (arith, d .fits))
+    ∙ rw (zero-add (lengthOf h), le-ltb (lengthOf h) (lengthOf h) (omega arith), eq-eqb (lengthOf h) (lengthOf h) refl, e)
+    (ap (λ (q : ℕ). steps q (at (Data (lengthOf h + 1)) (kept h c s)) es) (omega arith))))
 
 held-length : (got : ℕ) (h : List ℕ) (c : ℕ) (s : List ℕ) → DataLeft got (lengthOf h) → length s ≡ most → length (dataHeld got (kept h c s)) ≡ got
 held-length got h c s d ls =
     by-test (leb got (lengthOf h))
     (λ t. let u : got ≤ lengthOf h = leb-true got (lengthOf h) t in rw t (length-take-le got s (omega (arith, d .fits))))
     (λ t.
-        let u : lengthOf h < got = leb-false got (lengthOf h) t in
-        rw t (simp length-append (omega (arith, d .left, length-take-le (lengthOf h) s (omega (arith, d .fits))))))
+    let u : lengthOf h < got = leb-false got (lengthOf h) t in
+    rw t (simp length-append (omega (arith, d .left, length-take-le (lengthOf h) s (omega (arith, d .fits))))))
 
 -- from hunting, the octets that a state holds lead to that state
 pub holds : (ph : Phase) (h : List ℕ) (c : ℕ) (s : List ℕ) (q : ℕ) (es : List Event) → soundIn ph h ≡ true → length h ≡ 5 → length s ≡ most

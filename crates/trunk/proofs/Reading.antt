@@ -2,7 +2,7 @@
 use mathlib.Core.Path.{_≡_, refl, sym, ap, ap₂, _∙_}
 use mathlib.Core.Bool.{Bool, true, false}
 use mathlib.Core.List.{List, [], _∷_, _++_, append-assoc, append-nil}
-use Prim.Native.Nat.{ℕ, zero, suc, _+_, _<_, _≤_}
+use Prim.Native.Nat.{ℕ, zero, suc, _+_, _≤_}
 use native.Mathlib.Nat.{not-suc-le-zero}
 use native.Mathlib.Numerals.{add-one}
 use native.Mathlib.Omega.{arith}
@@ -12,6 +12,7 @@ use lib.Seq.{take-suc-set, take-all, take-at, length-take-le}
 use borrow.Author.Tests.{lt-ltb, le-ltb, eq-eqb, ne-eqb, ltb-false, eqb-true}
 use Rattle.octets.specs.Choice.{pick, both, by-test}
 use Rattle.sums.specs.Sums.{headerRun, headerStep, headerStart, headerLeft, dataRun, dataStep, dataStart, dataLeft}
+use Rattle.sums.proofs.Good.{run-append}
 use Rattle.runs.specs.Run.{Event, Trace}
 use Rattle.runs.specs.Run.Event.{octet, silence}
 use Rattle.runs.specs.Run.Trace.{told, final}
@@ -23,7 +24,7 @@ use Rattle.trunk.specs.Reading.{Out, Kept, at, laid, Found, isOct, ends5
 use Rattle.trunk.specs.Reading.Out.{good, damage}
 use Rattle.trunk.specs.Reading.Found.{found, nothing}
 use Rattle.trunk.specs.Demand.{outOf}
-use Rattle.trunk.proofs.Spans.{kept, laid-take, run-snoc, prefixed, prefixed-push, prefixed-none, laid-head, laid-store, laid-first, head-self, data-self, first-self}
+use Rattle.trunk.proofs.Spans.{kept, laid-take, prefixed, prefixed-push, prefixed-none, laid-head, laid-store, laid-first, head-self, data-self, first-self}
 
 -- ---- the step on an event, as a machine
 abbrev pub on : Receiver → Event → Stepped
@@ -59,7 +60,6 @@ hunt w p (octet x ∷ octet y ∷ es) =
 -- ---- spans. k reads on as the step does, where no more than m events are left
 module _ (m : ℕ) (k : Read)
     (hk : (q : ℕ) (h : List ℕ) (c : ℕ) (s : List ℕ) (es : List Event) → length h ≡ 5 → length s ≡ most → length es ≤ m → steps q (at Hunting (kept h c s)) es ≡ k q (kept h c s) es) where
-
   -- the same, with what is kept written otherwise
   goes : (q : ℕ) (h : List ℕ) (c : ℕ) (s : List ℕ) (w : Kept) (es : List Event) → w ≡ kept h c s → length h ≡ 5 → length s ≡ most → length es ≤ m
       → steps q (at Hunting (kept h c s)) es ≡ k q w es
@@ -78,12 +78,12 @@ module _ (m : ℕ) (k : Read)
       let other : eqb (lengthOf h + 1) (lengthOf h) ≡ false = ne-eqb (lengthOf h + 1) (lengthOf h) (omega arith) in
       let part : length d ≡ lengthOf h = length-take-le (lengthOf h) s (omega arith) in
       let sums : dataRun dataStart ((d ++ (c ∷ [])) ++ (b ∷ [])) ≡ dataStep (dataStep (dataRun dataStart d) c) b =
-          run-snoc dataStep dataStart (d ++ (c ∷ [])) b ∙ ap (λ (r : ℕ). dataStep r b) (run-snoc dataStep dataStart d c) in
+      run-append dataStep dataStart (d ++ (c ∷ [])) (b ∷ []) ∙ ap (λ (r : ℕ). dataStep r b) (run-append dataStep dataStart d (c ∷ [])) in
       let ih = goes (p + 1) h c s _ es (first-self h c s (b ∷ []) (omega arith)) lh ls (omega arith) in
       let same : take (lengthOf h) ((d ++ (c ∷ [])) ++ (b ∷ [])) ≡ d = rw (append-assoc d (c ∷ []) (b ∷ [])) (take-at d _ (lengthOf h) part) in
       rw (late, other, sums) (by-test (eqb (dataStep (dataStep (dataRun dataStart d) c) b) dataLeft)
-        (λ e. rw e (ap₂ (λ (d : List ℕ) (t : Trace Out Receiver). told p (good h d) t) (sym same) ih))
-        (λ e. rw e (ap (told p (damage 3)) ih)))
+      (λ e. rw e (ap₂ (λ (d : List ℕ) (t : Trace Out Receiver). told p (good h d) t) (sym same) ih))
+      (λ e. rw e (ap (told p (damage 3)) ih)))
 
   -- the data and the first check octet
   body : (n got : ℕ) (h : List ℕ) (c : ℕ) (s : List ℕ) (p : ℕ) (es : List Event) → got + n ≡ lengthOf h → length h ≡ 5 → length s ≡ most → lengthOf h ≤ most → length es ≤ m
@@ -123,18 +123,18 @@ module _ (m : ℕ) (k : Read)
       let ih = hk (p + 1) h c s es lh ls (omega arith) in
       let five : take 5 h ≡ h = take-all 5 h (omega arith) in
       let own : laid (take 5 (h ++ (b ∷ []))) h ≡ h = rw (take-at h (b ∷ []) 5 lh) (rw five at (laid-take 5 h (omega arith))) in
-      rw (five, run-snoc headerStep headerStart h b, own)
+      rw (five, run-append headerStep headerStart h (b ∷ []), own)
       (by-test (eqb (headerStep (headerRun headerStart h) b) headerLeft)
-        (λ e. rw e (by-test (ltb most (lengthOf h))
-            (λ t. rw t (ap (told p (damage 2)) ih))
-            (λ t.
-                let fits : lengthOf h ≤ most = ltb-false most (lengthOf h) t in
-                rw t (by-test (eqb (lengthOf h) 0)
-                (λ z.
-                    let z0 : lengthOf h ≡ 0 = eqb-true (lengthOf h) 0 z in
-                    rw z (ap₂ (λ (d : List ℕ) (t : Trace Out Receiver). told p (good h d) t) (ap (λ (n : ℕ). take n s) z0) ih))
-                (λ z. rw (z, add-one (lengthOf h)) (body (lengthOf h) 0 h c s (p + 1) es (omega arith) lh ls fits (omega arith) ∙ ap (afterData k (kept h c s)) (prefixed-none (span (suc (lengthOf h)) (p + 1) es))))))))
-        (λ e. rw e (ap (told p (damage 1)) ih)))
+      (λ e. rw e (by-test (ltb most (lengthOf h))
+      (λ t. rw t (ap (told p (damage 2)) ih))
+      (λ t.
+      let fits : lengthOf h ≤ most = ltb-false most (lengthOf h) t in
+      rw t (by-test (eqb (lengthOf h) 0)
+      (λ z.
+      let z0 : lengthOf h ≡ 0 = eqb-true (lengthOf h) 0 z in
+      rw z (ap₂ (λ (d : List ℕ) (t : Trace Out Receiver). told p (good h d) t) (ap (λ (n : ℕ). take n s) z0) ih))
+      (λ z. rw (z, add-one (lengthOf h)) (body (lengthOf h) 0 h c s (p + 1) es (omega arith) lh ls fits (omega arith) ∙ ap (afterData k (kept h c s)) (prefixed-none (span (suc (lengthOf h)) (p + 1) es))))))))
+      (λ e. rw e (ap (told p (damage 1)) ih)))
 
   -- the header
   pub header : (n got : ℕ) (h : List ℕ) (c : ℕ) (s : List ℕ) (p : ℕ) (es : List Event) → got + n ≡ 5 → length h ≡ 5 → length s ≡ most → length es ≤ m
@@ -175,5 +175,5 @@ by-position zero h c s p (e ∷ es) lh ls l = absurd (not-suc-le-zero l)
 by-position (suc m) h c s p es lh ls l =
     hunt (kept h c s) p es
     ∙ shorter (kept h c s) (ends55 es) m (readN m) p es l
-      (λ q rest lr. header m (readN m) (λ q h c s es lh ls le. by-position m h c s q es lh ls le) 5 0 h c s q rest (omega arith) lh ls lr
-        ∙ ap (afterHeader (readN m) (kept h c s)) (prefixed-none (span 5 q rest)))
+    (λ q rest lr. header m (readN m) (λ q h c s es lh ls le. by-position m h c s q es lh ls le) 5 0 h c s q rest (omega arith) lh ls lr
+    ∙ ap (afterHeader (readN m) (kept h c s)) (prefixed-none (span 5 q rest)))

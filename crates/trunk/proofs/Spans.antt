@@ -4,21 +4,35 @@ use mathlib.Core.List.{List, [], _∷_, _++_, append-assoc, append-nil}
 use Prim.Native.Nat.{ℕ, zero, suc, _+_, _<_, _≤_}
 use native.Mathlib.Nat.{not-suc-le-zero, le-of-suc-le-suc}
 use native.Mathlib.Omega.{arith}
-use lib.ListN.{length, getD, set, take, drop, length-append, length-take, take-append-drop, List·getD-eq-default}
+use lib.ListN.{length, getD, set, take, length-append, length-take, take-append-drop, List·getD-eq-default}
 use lib.Seq.{take-all, take-at, getD-at, length-take-le, drop-set-lt}
 use Rattle.octets.specs.Splice.{splice-front}
 use lib.Dec.{eqb}
 use Rattle.octets.specs.Choice.{pick}
-use Rattle.sums.specs.Sums.{run, headerRun, headerStart, headerLeft, dataRun, dataStart, dataLeft}
+use Rattle.sums.specs.Sums.{dataRun, dataStart, dataLeft}
+use Rattle.runs.specs.Run.{Event}
+use Rattle.runs.specs.Run.Event.{octet}
 use Rattle.runs.specs.Run.Trace.{told, final}
 use Rattle.frames.specs.declared.Phase.the-variants.{Header, Data}
 use Rattle.frames.specs.Step.{lengthOf}
-use Rattle.trunk.specs.Reading.{Kept, at, laid, withHead, withData, Span, push, Read, afterData, judged, afterHeader}
+use Rattle.trunk.specs.Reading.{Kept, at, laid, withHead, withData, Span, push, Read, afterData, judged, afterHeader, came}
 use Rattle.trunk.specs.Reading.Out.{good, damage}
 use Rattle.trunk.specs.Reading.Span.{full, cut, open-ended}
 
 abbrev pub kept : List ℕ → ℕ → List ℕ → Kept
 kept h c s = record { head = h; first = c; store = s }
+
+-- ---- octets as events
+pub came-two : (xs ys : List ℕ) → came (xs ++ ys) ≡ came xs ++ came ys
+came-two [] ys = refl
+came-two (x ∷ xs) ys = ap (λ (l : List Event). octet x ∷ l) (came-two xs ys)
+
+pub came-append : (xs ys : List ℕ) (es : List Event) → came (xs ++ ys) ++ es ≡ came xs ++ (came ys ++ es)
+came-append xs ys es = ap (λ (l : List Event). l ++ es) (came-two xs ys) ∙ append-assoc (came xs) (came ys) es
+
+pub length-came : (xs : List ℕ) → length (came xs) ≡ length xs
+length-came [] = refl
+length-came (x ∷ xs) = ap suc (length-came xs)
 
 -- ---- laying
 -- a store's own front leaves it
@@ -33,11 +47,6 @@ getD-any : (xs : List ℕ) (n c d : ℕ) → n < length xs → getD xs n c ≡ g
 getD-any [] n c d l = absurd (not-suc-le-zero l)
 getD-any (x ∷ xs) zero c d l = refl
 getD-any (x ∷ xs) (suc n) c d l = getD-any xs n c d (le-of-suc-le-suc l)
-
--- a register over one octet more
-pub run-snoc : (f : ℕ → ℕ → ℕ) (reg : ℕ) (xs : List ℕ) (x : ℕ) → run f reg (xs ++ (x ∷ [])) ≡ f (run f reg xs) x
-run-snoc f reg [] x = refl
-run-snoc f reg (y ∷ xs) x = run-snoc f (f reg y) xs x
 
 -- ---- a span behind octets that are there already
 abbrev pub prefixed : List ℕ → Span → Span
@@ -68,8 +77,8 @@ over-first h xs b c s l = rw (getD-any xs (lengthOf h) b c l)
 -- a header's reading behind pre looks at what is kept as pre leaves it
 header-over : (k : Read) (v w : Kept) (pre : List ℕ) (sp : Span) → ((xs : List ℕ) → withHead (pre ++ xs) v ≡ withHead (pre ++ xs) w)
     → afterHeader k v (prefixed pre sp) ≡ afterHeader k w (prefixed pre sp)
-header-over k v w pre (full xs q es) e = ap (λ (w : Kept). judged k w (eqb (headerRun headerStart (pre ++ xs)) headerLeft) q es) (e xs)
-header-over k v w pre (cut xs q es) e = ap (λ (w : Kept). told q (damage 4) (k (q + 1) w es)) (e xs)
+header-over k v w pre (full xs q es) e = ap (λ (w : Kept). judged k w (pre ++ xs) q es) (e xs)
+header-over k v w pre (cut xs q es) e = rw (e xs)
 header-over k v w pre (open-ended xs) e = ap (λ (w : Kept). final (at (Header (length (pre ++ xs))) w)) (e xs)
 
 -- and so does the reading of data, with one head
@@ -77,7 +86,7 @@ data-over : (k : Read) (h : List ℕ) (b c : ℕ) (s t pre : List ℕ) (sp : Spa
     → afterData k (kept h b s) (prefixed pre sp) ≡ afterData k (kept h c t) (prefixed pre sp)
 data-over k h b c s t pre (full xs q es) e =
     ap (λ (w : Kept). told q (pick (eqb (dataRun dataStart (pre ++ xs)) dataLeft) (good h (take (lengthOf h) (pre ++ xs))) (damage 3)) (k (q + 1) w es)) (e xs)
-data-over k h b c s t pre (cut xs q es) e = ap (λ (w : Kept). told q (damage 4) (k (q + 1) w es)) (e xs)
+data-over k h b c s t pre (cut xs q es) e = rw (e xs)
 data-over k h b c s t pre (open-ended xs) e = ap (λ (w : Kept). final (at (Data (length (pre ++ xs))) w)) (e xs)
 
 -- an octet that pre has is laid already: in the head, in the store, as the first check octet
