@@ -67,6 +67,7 @@ part-if-reads s at false net len low top adr v k h = let e : at ≡ at + 0 = ome
 
 pub record PartStands (s : List ℕ) (at : ℕ) (here : Bool) (low top : ℕ) (p : Part) : Type 0 where
   pub stands : Has s at (partOctets here (p .net) (p .len) (p .adr))
+  pub ends : p .next ≡ at + length (partOctets here (p .net) (p .len) (p .adr))
   pub fine : here ≡ true → PartValid (p .net) (p .len) low top
   pub kept : length (p .adr) ≡ 7
 
@@ -94,10 +95,12 @@ module _ (s : List ℕ) (os : Octets s) (at low top : ℕ) where
       let a = leb-false (length s) (at + 2 + len) e in
       let o = os (at + 1) in
       let p : at + 1 + 1 ≡ at + 2 = omega arith in
+      let c : length (addressOf s (at + 3) len) ≡ 7 = length-cut len (drop (at + 3) s) (ltb-false 7 len m) (rw length-drop (omega arith)) in
       record {
         stands = (omega arith, omega arith, (omega arith, omega arith, (omega arith, rw (p, k), laid-there len a)));
+        ends = omega (arith, length-take-le len (addressOf s (at + 3) len) (rw c (ltb-false 7 len m)));
         fine = λ _. record { some-net = low-net; net-range = top-net; len-least = ltb-false len low l; len-range = ltb-false 7 len m };
-        kept = length-cut len (drop (at + 3) s) (ltb-false 7 len m) (rw length-drop (omega arith));
+        kept = c;
       })))
 
   net-sound : (net : ℕ) → net ≡ be16 s at → Sound true (partNet s at net low top)
@@ -117,10 +120,4 @@ module _ (s : List ℕ) (os : Octets s) (at low top : ℕ) where
   pub part-if-sound : (here : Bool) → at ≤ length s → Sound here (partIf s at here low top)
   unfolding partIf partOctets noPart given
   part-if-sound true h = part-sound
-  part-if-sound false h = λ _. record { stands = h; fine = λ f. absurd (false≢true f); kept = refl }
-
-  -- and ends where its octets end
-  pub part-if-ends : (here : Bool) → PartStands s at here low top (partIf s at here low top)
-      → partIf s at here low top .next ≡ at + length (partOctets here (partIf s at here low top .net) (partIf s at here low top .len) (partIf s at here low top .adr))
-  unfolding shownPart
-  part-if-ends here w = ap (λ (p : Part). p .next) (part-if-reads s at here _ _ low top _ (w .fine) (w .kept) (w .stands))
+  part-if-sound false h = λ _. record { stands = h; ends = omega arith; fine = λ f. absurd (false≢true f); kept = refl }
