@@ -4,8 +4,7 @@ use mathlib.Core.Path.{_≡_, refl}
 use mathlib.Core.Bool.{Bool, true, false}
 use lib.Dec.{eqb}
 use native.Mathlib.Omega.{arith}
-use native.Mathlib.Nat.{add-assoc}
-use borrow.Author.Tests.{ne-eqb, eqb-false}
+use borrow.Author.Tests.{eqb-false}
 use Rattle.octets.specs.Choice.{given}
 use Rattle.npdu.specs.declared.Npdu.{Npdu}
 use Rattle.npdu.specs.Layout.{bitOf, controlOf}
@@ -66,16 +65,13 @@ control-bits h p =
     }
 
 -- an octet with bits 6 and 4 zero is put together again from its bits
-summed : (c e f g i j k m d s r : ℕ) → c ≡ 128 * m + e → e ≡ 64 * k + f → k ≡ 0 → f ≡ 32 * d + g → g ≡ 16 * j + i → j ≡ 0 → i ≡ 8 * s + r → 128 * m + 32 * d + 8 * s + r ≡ c
-summed c e f g i j k m d s r a b x y z w v = omega arith
+summed : (c e f g i j k l m d s r p : ℕ) → c ≡ 128 * m + e → e ≡ 64 * k + f → k ≡ 0 → f ≡ 32 * d + g → g ≡ 16 * j + i → j ≡ 0 → i ≡ 8 * s + l → l ≡ 4 * r + p
+    → 128 * m + 32 * d + 8 * s + 4 * r + p ≡ c
+summed c e f g i j k l m d s r p h7 h6 z6 h5 h4 z4 h3 h2 = omega arith
 
 pub control-back : (c : ℕ) → c < 256 → eqb (c % 128 / 64) 1 ≡ false → eqb (c % 32 / 16) 1 ≡ false
     → bitOf (eqb (c / 128) 1) 128 + bitOf (eqb (c % 64 / 32) 1) 32 + bitOf (eqb (c % 16 / 8) 1) 8 + bitOf (eqb (c % 8 / 4) 1) 4 + c % 4 ≡ c
 control-back c h six four =
     rw (bit-back (c / 128) 128 (omega arith), bit-back (c % 64 / 32) 32 (omega arith), bit-back (c % 16 / 8) 8 (omega arith), bit-back (c % 8 / 4) 4 (omega arith))
-    (rw (low-part c)
-    (summed c (c % 128) (c % 64) (c % 32) (c % 16) (c % 32 / 16) (c % 128 / 64) (c / 128) (c % 64 / 32) (c % 16 / 8) (c % 8)
-    (omega arith) (omega arith) (omega (arith, eqb-false (c % 128 / 64) 1 six)) (omega arith) (omega arith) (omega (arith, eqb-false (c % 32 / 16) 1 four)) (omega arith)))
-  where
-    low-part : (c : ℕ) → 128 * (c / 128) + 32 * (c % 64 / 32) + 8 * (c % 16 / 8) + 4 * (c % 8 / 4) + c % 4 ≡ 128 * (c / 128) + 32 * (c % 64 / 32) + 8 * (c % 16 / 8) + c % 8
-    low-part c = let e : 4 * (c % 8 / 4) + c % 4 ≡ c % 8 = omega arith in rw (add-assoc, e)
+    (summed c (c % 128) (c % 64) (c % 32) (c % 16) (c % 32 / 16) (c % 128 / 64) (c % 8) (c / 128) (c % 64 / 32) (c % 16 / 8) (c % 8 / 4) (c % 4)
+    (omega arith) (omega arith) (omega (arith, eqb-false (c % 128 / 64) 1 six)) (omega arith) (omega arith) (omega (arith, eqb-false (c % 32 / 16) 1 four)) (omega arith) (omega arith))

@@ -144,9 +144,11 @@ exactly = record { sound = sound; complete = complete }
     sound o v os a =
         let w = head-sound o os (a .accepted) in
         let e = reads-shown o os (a .accepted) in
-        let n : readNpdu o .next ≡ length (encode (readNpdu o .head)) = ap (λ (r : Reading). r .next) e in
-        (rw (← a .header) (record { ruled = w .ruled; kept = w .kept; settled = sym (ap (λ (r : Reading). r .head) e) }),
-        split o (encode (readNpdu o .head)) (w .stands) ∙ rw (← n, a .header, a .left))
+        let n : readNpdu o .next ≡ length (encode (readNpdu o .head)) = ap (λ (r : Reading). r .next) e in (
+          rw (← a .header) (record { ruled = w .ruled; kept = w .kept; settled = sym (ap (λ (r : Reading). r .head) e) }),
+          split o (encode (readNpdu o .head)) (w .stands) ∙ rw (← n, a .header, a .left),
+        )
+
     complete : (v : Followed) → ValidFirst v → Reads (encodeAll v) v
     complete v h =
         let e = reads-written (v .head) (v .rest) (h .ruled) (h .kept) in
