@@ -6,6 +6,7 @@ use lib.ListN.{length, drop}
 use Rattle.npdu.specs.Layout.{encode, Valid}
 use Rattle.npdu.specs.Read.{readNpdu}
 use Rattle.npdu.specs.declared.Npdu.{Npdu}
+use Rattle.npdu.specs.declared.Reading.{Reading}
 
 pub record Followed : Type 0 where
   pub head : Npdu
@@ -22,3 +23,7 @@ ValidFirst v = Valid (v .head)
 
 abbrev pub encodeAll : Followed → List ℕ
 encodeAll v = encode (v .head) ++ v .rest
+
+-- a reading that accepts: the header, and where what follows it begins
+unfoldable pub accepted : ℕ → Npdu → Reading
+accepted next head = record { refused = 0; next = next; head = head }

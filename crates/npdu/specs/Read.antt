@@ -13,6 +13,26 @@ use Rattle.npdu.specs.declared.tail.Tail.{Tail}
 use Rattle.npdu.specs.declared.Npdu.{Npdu}
 use Rattle.npdu.specs.declared.Reading.{Reading}
 
+-- ---- "control octet: bit 7 network message, 6 and 4 zero, 5 destination present, 3 source present, 2 reply expected, 1-0 priority"
+
+abbrev pub messageBit : ℕ → Bool
+messageBit c = eqb (c / 128) 1
+
+abbrev pub destBit : ℕ → Bool
+destBit c = eqb (c % 64 / 32) 1
+
+abbrev pub sourceBit : ℕ → Bool
+sourceBit c = eqb (c % 16 / 8) 1
+
+abbrev pub replyBit : ℕ → Bool
+replyBit c = eqb (c % 8 / 4) 1
+
+abbrev pub sixthBit : ℕ → Bool
+sixthBit c = eqb (c % 128 / 64) 1
+
+abbrev pub fourthBit : ℕ → Bool
+fourthBit c = eqb (c % 32 / 16) 1
+
 -- ---- DNET (2), DLEN, DADR and SNET (2), SLEN, SADR: one reading, with the least length and the greatest network number
 
 -- a part that was refused, or one that is absent at a place
@@ -106,10 +126,10 @@ joined c d q t =
       refused = 0;
       next = t .next;
       head = record {
-        message = eqb (c / 128) 1;
-        dest = eqb (c % 64 / 32) 1;
-        source = eqb (c % 16 / 8) 1;
-        reply = eqb (c % 8 / 4) 1;
+        message = messageBit c;
+        dest = destBit c;
+        source = sourceBit c;
+        reply = replyBit c;
         priority = c % 4;
         dnet = d .net;
         dlen = d .len;
@@ -130,20 +150,20 @@ afterTail c d q t = refuse (non (eqb (t .refused) 0)) (refusedBy (t .refused)) (
 unfoldable pub afterSource : List ℕ → ℕ → Part → Part → Reading
 afterSource s c d q =
     refuse (non (eqb (q .refused) 0)) (refusedBy (q .refused))
-    (afterTail c d q (tailAt s (q .next) (eqb (c % 64 / 32) 1) (eqb (c / 128) 1)))
+    (afterTail c d q (tailAt s (q .next) (destBit c) (messageBit c)))
 
 -- "3 source present": "SNET 1 to 65534", "SLEN 1 to 7"
 unfoldable pub afterDest : List ℕ → ℕ → Part → Reading
 afterDest s c d =
     refuse (non (eqb (d .refused) 0)) (refusedBy (d .refused))
-    (afterSource s c d (partIf s (d .next) (eqb (c % 16 / 8) 1) 1 65534))
+    (afterSource s c d (partIf s (d .next) (sourceBit c) 1 65534))
 
 -- "6 and 4 zero, 5 destination present": "DNET is 1 to 65535", "DLEN 0 to 7"
 unfoldable pub afterVersion : List ℕ → ℕ → Reading
 afterVersion s c =
-    refuse (eqb (c % 128 / 64) 1) (refusedBy 12)
-    (refuse (eqb (c % 32 / 16) 1) (refusedBy 12)
-    (afterDest s c (partIf s 2 (eqb (c % 64 / 32) 1) 0 65535)))
+    refuse (sixthBit c) (refusedBy 12)
+    (refuse (fourthBit c) (refusedBy 12)
+    (afterDest s c (partIf s 2 (destBit c) 0 65535)))
 
 -- "Version 01; control octet"
 unfoldable pub readNpdu : List ℕ → Reading

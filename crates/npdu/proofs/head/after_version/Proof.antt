@@ -1,4 +1,4 @@
-use Rattle.npdu.proofs.Next.{next-in}
+use Rattle.npdu.proofs.Outcome.{part-within}
 use Rattle.npdu.specs.Read.{afterVersion}
 use Rattle.octets.specs.Rules.{tests}
 use borrow.Author.Needs.{needs}
@@ -15,5 +15,5 @@ after-version-spec =
     (λ c κs. search needs)
     (λ c. search (needs, tests))
     (λ c κs. search needs)
-    (λ c κs. rw (c .part-if .ensures) (next-in _ _ _ _ _ (search needs)))
+    (λ c κs. rw (c .part-if .ensures) (part-within _ _ _ _ _ (search needs)))
     (λ c. rw (← c .before .part-if .ensures) (search (needs, tests))))
