@@ -3,3 +3,4 @@ pub mod Fields
 pub mod Layout
 pub mod FirstOctet
 pub mod Sound
+pub mod Complete

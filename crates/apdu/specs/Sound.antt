@@ -1,7 +1,7 @@
 -- What the reading accepts has its header in front and keeps the rules; what it refuses has one of the five numbers.
 use Prim.Native.Nat.{ℕ, zero, suc, _+_, _*_, _/_, _%_, _≤_, _<_}
 use native.Mathlib.Omega.{arith}
-use mathlib.Core.Path.{_≡_, refl, sym}
+use mathlib.Core.Path.{_≡_, refl, sym, _∙_}
 use mathlib.Core.Bool.{Bool, true, false}
 use mathlib.Core.List.{List, [], _∷_}
 use lib.ListN.{length, drop, drop-of-length-le}
@@ -20,7 +20,7 @@ use Rattle.apdu.specs.declared.kinds.Tail.the-variants.{Part, Broken}
 use Rattle.apdu.specs.Reading.{readApdu, readTail, readRequest, readUnconfirmed, readSimpleAck, readComplexAck, readSegmentAck, readError, readReject, readAbort, withTail, bit3, bit2, bit1, bit0, lonelyMor}
 use Rattle.apdu.specs.Fields.{paramsAt}
 use Rattle.apdu.specs.Layout.{firstOctet, tail, header, SegmentRules, Rules, Follows}
-use Rattle.apdu.specs.FirstOctet.{Parts, made-of, no-bits, clear3, clear2, clear1, clear0}
+use Rattle.apdu.specs.FirstOctet.{Parts, made-of, no-bits, clear3, clear2, clear1, clear0, needs-seg}
 
 -- the numbers of this page
 abbrev pub Number : ℕ → Type 0
@@ -76,7 +76,7 @@ module _ (s : List ℕ) where
       let far = leb-false (length s) at l in
       part
       (record {
-        more = λ m. absurd (omega (arith, eqb-false (oct s 0 % 16 / 8) 1 e, eqb-false (oct s 0 % 16 / 4) 1 lone, eqb-true (oct s 0 % 8 / 4) 1 m));
+        more = λ m. sym e ∙ needs-seg (oct s 0) lone m;
         window = λ f. absurd (no-flag (sym f));
         absent = λ _. (refl, refl)
       })
