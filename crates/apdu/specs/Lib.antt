@@ -4,3 +4,6 @@ pub mod Layout
 pub mod FirstOctet
 pub mod Sound
 pub mod Complete
+pub mod Writing
+pub mod Shown
+pub mod Laws

@@ -2,7 +2,7 @@
 use Prim.Native.Nat.{ℕ, zero, suc, _+_, _*_, _/_, _%_, _≤_, _<_}
 use native.Mathlib.Omega.{arith}
 use mathlib.Core.Path.{_≡_, refl, sym, _∙_}
-use mathlib.Core.Bool.{Bool, true, false}
+use mathlib.Core.Bool.{Bool, true, false, true≢false, false≢true}
 use mathlib.Core.List.{List, [], _∷_}
 use lib.ListN.{length, drop, drop-of-length-le}
 use lib.Dec.{eqb, ltb, leb}
@@ -45,9 +45,6 @@ stands : (s : List ℕ) (at n : ℕ) → at + n ≤ length s → Has s at (run s
 stands s at zero h = omega arith
 stands s at (suc n) h = (omega arith, refl, stands s (at + 1) n (omega arith))
 
-no-flag : true ≡ false → ⊥
-no-flag e = let z : _≡_ {A = ℕ} 0 1 = cc in omega arith
-
 module _ (s : List ℕ) where
   -- past a test that refuses
   past : (test : Bool) {n : ℕ} {rest : Answer} → Number n → (test ≡ false → Judged s rest) → Judged s (pick test (Refused n) rest)
@@ -68,7 +65,7 @@ module _ (s : List ℕ) where
       let far = leb-false (length s) (at + 2) m in
       let step : at + 1 + 1 ≡ at + 2 = omega arith in
       part
-      (record { more = λ _. refl; window = λ _. (omega (arith, eqb-false (oct s (at + 1)) 0 z), ltb-false _ _ w); absent = λ f. absurd (no-flag f) })
+      (record { more = λ _. refl; window = λ _. (omega (arith, eqb-false (oct s (at + 1)) 0 z), ltb-false _ _ w); absent = λ f. absurd (true≢false f) })
       e refl
       (omega arith, refl, (omega arith, refl, (omega arith, rw step refl, omega arith))))))))
       (λ e.
@@ -77,7 +74,7 @@ module _ (s : List ℕ) where
       part
       (record {
         more = λ m. sym e ∙ needs-seg (oct s 0) lone m;
-        window = λ f. absurd (no-flag (sym f));
+        window = λ f. absurd (false≢true f);
         absent = λ _. (refl, refl)
       })
       e refl (omega arith, refl, omega arith)))
