@@ -76,7 +76,7 @@ request p t r =
       le-ltb 15 (p .size) (omega arith),
       le-ltb 5 (p .size) (r .0),
       f .first,
-      tail-back s 3 g (p .choice) (r .1) (f .third) (f .second) (after front (tail g (p .choice)) t)
+      tail-back s 3 g (p .choice) (r .1) (f .third) (f .second) (after front (tail g (p .choice)) t),
     )
 
 unconfirmed : (p : UnconfirmedPdu) (t : List ℕ) → readApdu (header (Unconfirmed p) ++ t) ≡ Good (Unconfirmed p)
@@ -101,7 +101,7 @@ complex-ack p t r =
       f .kind,
       le-ltb 0 (x % 4) (omega (arith, below1 x (f .first), below0 x (f .last))),
       not-lonely x (λ m. f .third ∙ r .more (sym (f .second) ∙ m)),
-      tail-back s 2 g (p .choice) r (f .third) (f .second) (after front (tail g (p .choice)) t)
+      tail-back s 2 g (p .choice) r (f .third) (f .second) (after front (tail g (p .choice)) t),
     )
 
 segment-ack : (p : SegmentAckPdu) → Rules (SegmentAck p) → readApdu (header (SegmentAck p)) ≡ Good (SegmentAck p)
@@ -115,7 +115,7 @@ segment-ack p w =
       f .first,
       f .last,
       ne-eqb (p .window) 0 (λ e. omega arith),
-      le-ltb 127 (p .window) (w .1)
+      le-ltb 127 (p .window) (w .1),
     )
 
 failed : (p : ErrorPdu) (t : List ℕ) → readApdu (header (Error p) ++ t) ≡ Good (Error p)

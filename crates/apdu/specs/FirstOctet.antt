@@ -82,7 +82,7 @@ module _ (k : ℕ) (b3 b2 b1 b0 : Bool) where
         third = flag-test (x % 16 / 8) b3 (omega arith);
         second = flag-test (x % 8 / 4) b2 (omega arith);
         first = flag-test (x % 4 / 2) b1 (omega arith);
-        last = flag-test (x % 2) b0 (omega arith)
+        last = flag-test (x % 2) b0 (omega arith);
       }
 
   pub made-of : (x : ℕ) → Parts x k b3 b2 b1 b0 → x ≡ firstOctet k b3 b2 b1 b0

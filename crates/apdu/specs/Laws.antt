@@ -61,9 +61,9 @@ pub exact : Exactly Reads Valid encode
 exact =
     record {
       sound = λ s a os r.
-        let j = accepted (rw (r .0) at (judged s)) in
-        ((j .0, rw (r .1) at (j .2)), rw (r .1) at (front s (a .pdu) (j .1)));
-      complete = λ a v. (reads-back (a .pdu) (a .parameters) (v .0) (v .1), drop-at (header (a .pdu)) (a .parameters) (paramsAt (a .pdu)) (header-length (a .pdu)))
+          let j = accepted (rw (r .0) at (judged s)) in
+          ((j .0, rw (r .1) at (j .2)), rw (r .1) at (front s (a .pdu) (j .1)));
+      complete = λ a v. (reads-back (a .pdu) (a .parameters) (v .0) (v .1), drop-at (header (a .pdu)) (a .parameters) (paramsAt (a .pdu)) (header-length (a .pdu)));
     }
 
 -- What was read keeps the writer's rules and writes back to the same octets.

@@ -75,7 +75,7 @@ module _ (s : List ℕ) where
       (record {
         more = λ m. sym e ∙ needs-seg (oct s 0) lone m;
         window = λ f. absurd (false≢true f);
-        absent = λ _. (refl, refl)
+        absent = λ _. (refl, refl);
       })
       e refl (omega arith, refl, omega arith)))
 
