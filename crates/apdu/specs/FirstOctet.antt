@@ -4,9 +4,9 @@ use native.Mathlib.Omega.{arith}
 use mathlib.Core.Path.{_≡_, refl}
 use mathlib.Core.Bool.{Bool, true, false}
 use lib.Dec.{eqb}
-use borrow.Author.Tests.{ne-eqb}
+use borrow.Author.Tests.{eq-eqb, ne-eqb, eqb-true, eqb-false}
 use Rattle.octets.specs.Choice.{given}
-use Rattle.apdu.specs.Reading.{bit3, bit2, bit1, bit0}
+use Rattle.apdu.specs.Reading.{bit3, bit2, bit1, bit0, lonelyMor}
 use Rattle.apdu.specs.Layout.{flag, firstOctet}
 
 -- the type and the low bits 3 to 0 of an octet
@@ -33,7 +33,7 @@ test-flag zero h = refl
 test-flag (suc zero) h = refl
 test-flag (suc (suc n)) h = absurd (omega arith)
 
--- a bit that is zero
+-- bits that are zero, both ways
 module _ (x : ℕ) where
   pub clear3 : x % 16 < 8 → bit3 x ≡ false
   clear3 h = ne-eqb (x % 16 / 8) 1 (λ e. omega arith)
@@ -47,12 +47,28 @@ module _ (x : ℕ) where
   pub clear0 : x % 2 < 1 → bit0 x ≡ false
   clear0 h = ne-eqb (x % 2) 1 (λ e. omega arith)
 
-module _ (k : ℕ) (b3 b2 b1 b0 : Bool) where
-  -- the low four bits as one number
-  pub low-bits : firstOctet k b3 b2 b1 b0 % 16 ≡ flag b3 * 8 + flag b2 * 4 + flag b1 * 2 + flag b0
-  unfolding firstOctet
-  low-bits = omega (arith, flag-small b3, flag-small b2, flag-small b1, flag-small b0)
+  pub below3 : bit3 x ≡ false → x % 16 < 8
+  below3 e = omega (arith, eqb-false (x % 16 / 8) 1 e)
 
+  pub below2 : bit2 x ≡ false → x % 8 < 4
+  below2 e = omega (arith, eqb-false (x % 8 / 4) 1 e)
+
+  pub below1 : bit1 x ≡ false → x % 4 < 2
+  below1 e = omega (arith, eqb-false (x % 4 / 2) 1 e)
+
+  pub below0 : bit0 x ≡ false → x % 2 < 1
+  below0 e = omega (arith, eqb-false (x % 2) 1 e)
+
+  -- "MOR needs SEG", both ways
+  pub needs-seg : lonelyMor x ≡ false → bit2 x ≡ true → bit3 x ≡ true
+  needs-seg e m = eq-eqb (x % 16 / 8) 1 (omega (arith, eqb-false (x % 16 / 4) 1 e, eqb-true (x % 8 / 4) 1 m))
+
+  pub not-lonely : (bit2 x ≡ true → bit3 x ≡ true) → lonelyMor x ≡ false
+  not-lonely f =
+      ne-eqb (x % 16 / 4) 1
+      (λ e. let m : x % 8 / 4 ≡ 1 = omega arith in omega (arith, eqb-true (x % 16 / 8) 1 (f (eq-eqb (x % 8 / 4) 1 m))))
+
+module _ (k : ℕ) (b3 b2 b1 b0 : Bool) where
   pub parts-of : Parts (firstOctet k b3 b2 b1 b0) k b3 b2 b1 b0
   unfolding firstOctet
   parts-of =
@@ -66,7 +82,7 @@ module _ (k : ℕ) (b3 b2 b1 b0 : Bool) where
         third = flag-test (x % 16 / 8) b3 (omega arith);
         second = flag-test (x % 8 / 4) b2 (omega arith);
         first = flag-test (x % 4 / 2) b1 (omega arith);
-        last = flag-test (x % 2) b0 (omega arith)
+        last = flag-test (x % 2) b0 (omega arith);
       }
 
   pub made-of : (x : ℕ) → Parts x k b3 b2 b1 b0 → x ≡ firstOctet k b3 b2 b1 b0

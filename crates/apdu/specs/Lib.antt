@@ -3,3 +3,7 @@ pub mod Fields
 pub mod Layout
 pub mod FirstOctet
 pub mod Sound
+pub mod Complete
+pub mod Writing
+pub mod Shown
+pub mod Laws

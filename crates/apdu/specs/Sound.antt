@@ -1,8 +1,8 @@
 -- What the reading accepts has its header in front and keeps the rules; what it refuses has one of the five numbers.
 use Prim.Native.Nat.{ℕ, zero, suc, _+_, _*_, _/_, _%_, _≤_, _<_}
 use native.Mathlib.Omega.{arith}
-use mathlib.Core.Path.{_≡_, refl, sym}
-use mathlib.Core.Bool.{Bool, true, false}
+use mathlib.Core.Path.{_≡_, refl, sym, _∙_}
+use mathlib.Core.Bool.{Bool, true, false, true≢false, false≢true}
 use mathlib.Core.List.{List, [], _∷_}
 use lib.ListN.{length, drop, drop-of-length-le}
 use lib.Dec.{eqb, ltb, leb}
@@ -20,7 +20,7 @@ use Rattle.apdu.specs.declared.kinds.Tail.the-variants.{Part, Broken}
 use Rattle.apdu.specs.Reading.{readApdu, readTail, readRequest, readUnconfirmed, readSimpleAck, readComplexAck, readSegmentAck, readError, readReject, readAbort, withTail, bit3, bit2, bit1, bit0, lonelyMor}
 use Rattle.apdu.specs.Fields.{paramsAt}
 use Rattle.apdu.specs.Layout.{firstOctet, tail, header, SegmentRules, Rules, Follows}
-use Rattle.apdu.specs.FirstOctet.{Parts, made-of, no-bits, clear3, clear2, clear1, clear0}
+use Rattle.apdu.specs.FirstOctet.{Parts, made-of, no-bits, clear3, clear2, clear1, clear0, needs-seg}
 
 -- the numbers of this page
 abbrev pub Number : ℕ → Type 0
@@ -45,9 +45,6 @@ stands : (s : List ℕ) (at n : ℕ) → at + n ≤ length s → Has s at (run s
 stands s at zero h = omega arith
 stands s at (suc n) h = (omega arith, refl, stands s (at + 1) n (omega arith))
 
-no-flag : true ≡ false → ⊥
-no-flag e = let z : _≡_ {A = ℕ} 0 1 = cc in omega arith
-
 module _ (s : List ℕ) where
   -- past a test that refuses
   past : (test : Bool) {n : ℕ} {rest : Answer} → Number n → (test ≡ false → Judged s rest) → Judged s (pick test (Refused n) rest)
@@ -68,7 +65,7 @@ module _ (s : List ℕ) where
       let far = leb-false (length s) (at + 2) m in
       let step : at + 1 + 1 ≡ at + 2 = omega arith in
       part
-      (record { more = λ _. refl; window = λ _. (omega (arith, eqb-false (oct s (at + 1)) 0 z), ltb-false _ _ w); absent = λ f. absurd (no-flag f) })
+      (record { more = λ _. refl; window = λ _. (omega (arith, eqb-false (oct s (at + 1)) 0 z), ltb-false _ _ w); absent = λ f. absurd (true≢false f) })
       e refl
       (omega arith, refl, (omega arith, refl, (omega arith, rw step refl, omega arith))))))))
       (λ e.
@@ -76,9 +73,9 @@ module _ (s : List ℕ) where
       let far = leb-false (length s) at l in
       part
       (record {
-        more = λ m. absurd (omega (arith, eqb-false (oct s 0 % 16 / 8) 1 e, eqb-false (oct s 0 % 16 / 4) 1 lone, eqb-true (oct s 0 % 8 / 4) 1 m));
-        window = λ f. absurd (no-flag (sym f));
-        absent = λ _. (refl, refl)
+        more = λ m. sym e ∙ needs-seg (oct s 0) lone m;
+        window = λ f. absurd (false≢true f);
+        absent = λ _. (refl, refl);
       })
       e refl (omega arith, refl, omega arith)))
 
