@@ -44,7 +44,7 @@ valid-test (application n xs) e =
       other = eqb-false n 1 (non-true (eqb n 1) (b .0));
       low = leb-true (least n) (length xs) (c .0);
       high = leb-true (length xs) (most n) (d .0);
-      rule = d .1
+      rule = d .1;
     }
 valid-test (boolean v) e = leb-true v 1 e
 valid-test (context n xs) e = let a = both-true (leb n 254) (leb (length xs) longest) e in (leb-true n 254 (a .0), leb-true (length xs) longest (a .1))
