@@ -14,15 +14,15 @@ use Rattle.octets.specs.Reading.{oct, Octets}
 use Rattle.octets.specs.Has.{Has, has-bound, has-append, has-left, has-right, has-take}
 use Rattle.tags.specs.Types.{longest, least, most}
 use Rattle.tags.specs.Head.{andThen, numberAt, lengthAt, firstRule, contentsAt, contextAt, applicationAt, headAt}
-use Rattle.tags.specs.Layout.{Thing, highBits, numberOctets, lowBits, lengthOctets, encode, Application, Valid, goodContents, tagLength, contentsOf, tagOf}
+use Rattle.tags.specs.Layout.{Thing, highBits, numberOctets, lowBits, lengthOctets, encode, Application, Valid, goodContents, tagLength, contentsOf, tagOf, Good, Stands}
 use Rattle.tags.specs.Layout.Thing.{application, boolean, context, opening, closing}
 use Rattle.tags.specs.Decide.{both-true}
 use Rattle.tags.specs.declared.Field.{Field}
 use Rattle.tags.specs.declared.Field.the-variants.{Is, Bad}
 use Rattle.tags.specs.declared.Tag.{Tag}
 use Rattle.tags.specs.declared.Tag.the-variants.{Item, Opening, Closing, Refused}
-use Rattle.tags.proofs.Bounds.{contents-in, boolean-bits}
-use Rattle.tags.proofs.Spelling.{NumberHas, LengthHas, number-complete, number-sound, length-complete, length-sound}
+use Rattle.tags.proofs.Bounds.{and-then, contents-in, first-bits, boolean-bits}
+use Rattle.tags.proofs.Spelling.{NumberHas, LengthHas, NumberStands, LengthStands, number-complete, number-sound, length-complete, length-sound}
 use Rattle.tags.proofs.Rule.{contents-exact}
 
 -- the octets of an item: those of its tag, and its contents
@@ -137,3 +137,97 @@ head-complete s at (opening n) ok h =
 head-complete s at (closing n) ok h =
     let place : at + (1 + length (numberOctets n)) ≡ at + 1 + length (numberOctets n) = omega arith in
     rw place (context-head s at n 7 (omega arith) ok (h .0) (omega (arith, h .1)) (h .2))
+
+-- the number's octets lie within
+number-end : (s : List ℕ) (at n p : ℕ) → NumberHas s at n p → p ≤ length s
+number-end s at n p w = omega (arith, has-bound s (at + 1) (numberOctets n) (w .octets))
+
+-- what a tag without the context bit is, whose number is up to 12: it is all in the tag octet
+module _ (s : List ℕ) (at n p : ℕ) (w : NumberHas s at n p) (known : n ≤ 12) where
+  all-high : oct s at / 16 ≡ n
+  unfolding highBits
+  all-high = rw (lt-ltb n 15 (omega arith)) at (w .high)
+
+  all-here : p ≡ at + 1
+  unfolding numberOctets
+  all-here = let e : p ≡ at + 1 + 0 = rw (lt-ltb n 15 (omega arith)) at (w .after) in omega arith
+
+-- octets at a place are those of an item, given its fields
+context-has : (s : List ℕ) (at n p v q : ℕ) (xs : List ℕ) → oct s at % 16 / 8 ≡ 1 → NumberHas s at n p → LengthHas s p (oct s at % 8) v q → length xs ≡ v → Has s q xs
+    → Has s at (encode (context n xs)) × (Item 1 n 0 q v ≡ tagOf at (context n xs))
+unfolding encode tagOf tagLength
+context-has s at n p v q xs bit w z e h =
+    let place : at + (1 + length (numberOctets n) + length (lengthOctets v)) ≡ q = omega arith in
+    let rest : Has s p (lengthOctets v ++ xs) = has-append s p (lengthOctets v) xs (z .octets) (rw (z .after) at h) in
+    rw e ((w .here, omega arith, has-append s (at + 1) (numberOctets n) (lengthOctets v ++ xs) (w .octets) (rw (w .after) at rest)), rw place)
+
+application-has : (s : List ℕ) (at n p v q : ℕ) (xs : List ℕ) → n ≤ 12 → (oct s at % 16 / 8 ≡ 1 → ⊥) → NumberHas s at n p → LengthHas s p (oct s at % 8) v q → length xs ≡ v → Has s q xs
+    → Has s at (encode (application n xs)) × (Item 0 n 0 q v ≡ tagOf at (application n xs))
+unfolding encode tagOf tagLength
+application-has s at n p v q xs known bit w z e h =
+    let high = all-high s at n p w known in
+    let here = all-here s at n p w known in
+    let place : at + (1 + length (lengthOctets v)) ≡ q = omega arith in
+    let rest : Has s p (lengthOctets v ++ xs) = has-append s p (lengthOctets v) xs (z .octets) (rw (z .after) at h) in
+    rw e ((w .here, omega arith, rw here at rest), rw place)
+
+module _ (s : List ℕ) (os : Octets s) (at : ℕ) where
+  -- a head that is good is that of an item which stands there
+  abbrev Sound : Tag → Type 0
+  Sound u = Good u → Stands s at u
+
+  -- what is cut out there
+  cut : (q v : ℕ) → q + v ≤ length s → length (take v (drop q s)) ≡ v
+  cut q v h = length-take-le v (drop q s) (rw length-drop (omega arith))
+
+  context-sound : (n p : ℕ) → NumberHas s at n p → oct s at % 16 / 8 ≡ 1 → Sound (contextAt s (oct s at % 8) n p)
+  unfolding contextAt encode tagOf tagLength
+  context-sound n p w bit =
+      let place : p ≡ at + (1 + length (numberOctets n)) = omega arith in
+      pick-cases Sound (eqb (oct s at % 8) 6) (λ e _. (opening n, w .small, (w .here, omega (arith, eqb-true), w .octets), ap (Opening n) place)) (λ e6.
+      pick-cases Sound (eqb (oct s at % 8) 7) (λ e _. (closing n, w .small, (w .here, omega (arith, eqb-true), w .octets), ap (Closing n) place)) (λ e7.
+      let small : oct s at % 8 < 6 = omega (arith, eqb-false) in
+      and-then Sound (LengthStands s p (oct s at % 8)) (lengthAt s p (oct s at % 8)) (length-sound s os p (oct s at % 8) (number-end s at n p w) small) (λ v q z.
+      pick-cases Sound (ltb (length s) q) (λ _ g. absurd g) (λ h1.
+      pick-cases Sound (ltb (length s - q) v) (λ _ g. absurd g) (λ h2 _.
+      let within : q + v ≤ length s = omega (arith, ltb-false) in
+      let r = context-has s at n p v q (take v (drop q s)) bit w z (cut q v within) (has-take s q v within) in
+      (context n (take v (drop q s)), (w .small, rw (cut q v within) (z .small)), r .0, r .1)))) (λ _ g. absurd g)))
+
+  application-sound : (n p : ℕ) → NumberHas s at n p → (oct s at % 16 / 8 ≡ 1 → ⊥) → ltb 0 (firstRule (oct s at)) ≡ false → Sound (applicationAt s (oct s at % 8) n p)
+  unfolding applicationAt encode tagOf tagLength
+  application-sound n p w bit first =
+      pick-cases Sound (ltb 12 n) (λ _ g. absurd g) (λ h12.
+      let known : n ≤ 12 = ltb-false 12 n h12 in
+      let high = all-high s at n p w known in
+      let here = all-here s at n p w known in
+      pick-cases Sound (eqb n 1) (λ e _.
+      let one : oct s at / 16 ≡ 1 = high ∙ eqb-true n 1 e in
+      (boolean (oct s at % 8), boolean-bits (oct s at) bit one first, (w .here, omega arith, omega (arith, w .here)), rw here)) (λ e1.
+      let small : oct s at % 8 < 6 = omega (arith, first-bits (oct s at) bit (omega arith) first) in
+      and-then Sound (LengthStands s p (oct s at % 8)) (lengthAt s p (oct s at % 8)) (length-sound s os p (oct s at % 8) (number-end s at n p w) small) (λ v q z.
+      pick-cases Sound (ltb v (least n)) (λ _ g. absurd g) (λ h1.
+      pick-cases Sound (ltb (most n) v) (λ _ g. absurd g) (λ h2.
+      pick-cases Sound (ltb 0 (contentsAt s q n v)) (λ _ g. absurd g) (λ h3 _.
+      let within : q + v ≤ length s = contents-in s q v (omega (arith, has-bound s p (lengthOctets v) (z .octets))) n h3 in
+      judged n p v q (take v (drop q s)) w z known bit (eqb-false n 1 e1) (cut q v within) (has-take s q v within) h1 h2 h3)))) (λ _ g. absurd g)))
+    where
+      judged : (n p v q : ℕ) (xs : List ℕ) → NumberHas s at n p → LengthHas s p (oct s at % 8) v q → n ≤ 12 → (oct s at % 16 / 8 ≡ 1 → ⊥) → (n ≡ 1 → ⊥) → length xs ≡ v → Has s q xs
+          → ltb v (least n) ≡ false → ltb (most n) v ≡ false → ltb 0 (contentsAt s q n v) ≡ false → Stands s at (Item 0 n 0 q v)
+      judged n p v q xs w z known bit other e h h1 h2 h3 =
+          let low : least n ≤ length xs = omega (arith, ltb-false) in
+          let none : contentsAt s q n (length xs) ≡ 0 = rw e (omega (arith, ltb-false 0 (contentsAt s q n v) h3)) in
+          let rule : goodContents n xs ≡ true = sym (contents-exact s q n xs h low) ∙ eq-eqb (contentsAt s q n (length xs)) 0 none in
+          let r = application-has s at n p v q xs known bit w z e h in
+          (application n xs, record { known = known; other = other; low = low; high = omega (arith, ltb-false); rule = rule }, r .0, r .1)
+
+  -- what is read is an item that stands there
+  pub head-sound : Good (headAt s at) → Stands s at (headAt s at)
+  unfolding headAt
+  head-sound =
+      pick-cases Sound (leb (length s) at) (λ _ g. absurd g) (λ _.
+      pick-cases Sound (ltb 0 (firstRule (oct s at))) (λ _ g. absurd g) (λ first.
+      and-then Sound (NumberStands s at) (numberAt s at) (number-sound s os at) (λ n p w.
+      pick-cases Sound (eqb (oct s at % 16 / 8) 1)
+      (λ e. context-sound n p w (eqb-true (oct s at % 16 / 8) 1 e))
+      (λ e. application-sound n p w (eqb-false (oct s at % 16 / 8) 1 e) first)) (λ _ g. absurd g)))
