@@ -6,7 +6,7 @@ use mathlib.Core.List.{List}
 use mathlib.Core.Bool.{Bool, true, false}
 use lib.ListN.{length}
 use lib.Dec.{ltb, leb, eqb}
-use borrow.Author.Tests.{ltb-true, ltb-false, leb-false, eqb-true, eqb-false, eq-eqb, ne-eqb, lt-ltb}
+use borrow.Author.Tests.{ltb-true, ltb-false, leb-false, eqb-true, eqb-false, ne-eqb, le-ltb}
 use Rattle.octets.specs.Choice.{pick, pick-cases, by-test}
 use Rattle.octets.specs.Reading.{oct, be16}
 use Rattle.tags.specs.Types.{longest, least, most}
@@ -44,7 +44,8 @@ abbrev pub LengthIn : List ℕ → ℕ → Field → Type 0
 LengthIn s at (Is v q) = (v ≤ longest) × (at ≤ q) × (q ≤ length s)
 LengthIn s at (Bad x) = Unit {0}
 
-and-then : (P : Tag → Type 0) (Q : Field → Type 0) (f : Field) {k : ℕ → ℕ → Tag} → Q f → ((v p : ℕ) → Q (Is v p) → P (k v p)) → ((x : ℕ) → P (Refused x)) → P (andThen f k)
+-- what follows a field, by what is known of it
+pub and-then : (P : Tag → Type 0) (Q : Field → Type 0) (f : Field) {k : ℕ → ℕ → Tag} → Q f → ((v p : ℕ) → Q (Is v p) → P (k v p)) → ((x : ℕ) → P (Refused x)) → P (andThen f k)
 and-then P Q (Is v p) q f g = f v p q
 and-then P Q (Bad x) q f g = g x
 
@@ -139,15 +140,21 @@ module _ (s : List ℕ) (at l n p : ℕ) (small : n ≤ 254) (on : at < p) (in-s
       pick-cases (TagIn s at) (ltb 0 (contentsAt s q n v)) (λ _. tt) (λ h3.
       record { class = omega arith; number = small; value = omega arith; on = omega arith; within = contents-in s q v (h .2) n h3 })))) (λ _. tt)))
 
--- a boolean's length bits are 0 or 1
+-- what the tag octet alone rules out: length bits over 5 of a type up to 12, and over 1 of a boolean
+pub first-bits : (b : ℕ) → (b % 16 / 8 ≡ 1 → ⊥) → b / 16 ≤ 12 → ltb 0 (firstRule b) ≡ false → b % 8 ≤ 5
+unfolding firstRule
+first-bits b c e w =
+    by-test (ltb 5 (b % 8))
+    (λ h. let f : ltb 0 32 ≡ false = rw (ne-eqb (b % 16 / 8) 1 c, ne-eqb (b / 16) 15 (omega arith), le-ltb 12 (b / 16) e, h) at w in absurd (omega (arith, ltb-false 0 32 f)))
+    (λ h. ltb-false 5 (b % 8) h)
+
 pub boolean-bits : (b : ℕ) → (b % 16 / 8 ≡ 1 → ⊥) → b / 16 ≡ 1 → ltb 0 (firstRule b) ≡ false → b % 8 ≤ 1
 unfolding firstRule
 boolean-bits b c e w =
-    by-test (ltb 5 (b % 8))
-    (λ h. let f : ltb 0 32 ≡ false = rw (ne-eqb (b % 16 / 8) 1 c, e, h) at w in absurd (omega (arith, ltb-false 0 32 f)))
-    (λ h. by-test (ltb 1 (b % 8))
-    (λ k. let f : ltb 0 32 ≡ false = rw (ne-eqb (b % 16 / 8) 1 c, e, h, k) at w in absurd (omega (arith, ltb-false 0 32 f)))
-    (λ k. ltb-false 1 (b % 8) k))
+    let five = first-bits b c (omega arith) w in
+    by-test (ltb 1 (b % 8))
+    (λ h. let f : ltb 0 32 ≡ false = rw (ne-eqb (b % 16 / 8) 1 c, e, le-ltb 5 (b % 8) five, h) at w in absurd (omega (arith, ltb-false 0 32 f)))
+    (λ h. ltb-false 1 (b % 8) h)
 
 pub head-in : (s : List ℕ) (at : ℕ) → TagIn s at (headAt s at)
 unfolding headAt
