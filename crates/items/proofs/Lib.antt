@@ -4,4 +4,6 @@ pub mod Walk
 pub mod RecordOctets
 pub mod Listing
 pub mod Left
+pub mod Exact
+pub mod Back
 pub mod Examples
