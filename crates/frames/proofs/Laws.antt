@@ -1,15 +1,15 @@
 -- Laws of the step, of 59's test, and of feeding.
-use mathlib.Core.Path.{_≡_, refl, sym, ap, _∙_}
+use mathlib.Core.Path.{_≡_, refl}
 use mathlib.Core.Bool.{Bool, true, false}
 use mathlib.Core.List.{List, [], _∷_}
-use Prim.Native.Nat.{ℕ, suc, _+_, _<_, _≤_}
+use Prim.Native.Nat.{ℕ, _+_, _<_, _≤_}
 use native.Mathlib.Numerals.{add-one}
 use native.Mathlib.Omega.{arith}
 use lib.Dec.{eqb, ltb, leb}
-use lib.ListN.{length, getD, take, drop, drop-of-length-le, length-set}
+use lib.ListN.{length, getD, drop, drop-of-length-le, length-set}
 use lib.Seq.{drop-cons}
 use borrow.Author.Tests.{lt-ltb, le-leb, lt-leb, ltb-true, ltb-false, leb-true, eqb-true, eqb-false}
-use Rattle.octets.specs.Choice.{pick, both, by-test, pick-case, pick-cases}
+use Rattle.octets.specs.Choice.{both, by-test, pick-case, pick-cases}
 use Rattle.sums.specs.Sums.{headerLeft, dataLeft}
 use Rattle.frames.specs.declared.Phase.{Phase}
 use Rattle.frames.specs.declared.Phase.the-variants.{Hunting, Preamble, Header, Data}
@@ -18,7 +18,7 @@ use Rattle.frames.specs.declared.Outcome.the-variants.{Quiet, Frame, Dam
 use Rattle.frames.specs.declared.Link.{Link}
 use Rattle.frames.specs.declared.Receiver.{Receiver}
 use Rattle.frames.specs.declared.Moved.{Moved}
-use Rattle.frames.specs.Step.{most, lengthOf, Stepped, whole, moved, headerLeaves, headerEnd, headerOctet, dataLeaves, dataEnd, dataOctet, dataSound, DataLeft, soundIn, soundOf, stepIn, stepOf, reportsOf, fedAt, feedFrom, feedOf, stillOf, silenceOf}
+use Rattle.frames.specs.Step.{most, lengthOf, Stepped, moved, headerLeaves, headerEnd, headerOctet, dataLeaves, dataEnd, dataOctet, dataSound, DataLeft, soundIn, soundOf, stepIn, stepOf, reportsOf, fedAt, feedFrom, feedOf, stillOf}
 
 -- ---- 59's test as facts, and back
 both-left : (a b : Bool) → both a b ≡ true → a ≡ true
@@ -178,23 +178,3 @@ end r i xs h = rw (drop-of-length-le xs h)
 pub opened : (r : Receiver) (xs : List ℕ) → Sound r → feedFrom 0 r xs ≡ feedOf r xs
 unfolding feedOf
 opened r xs h = rw h
-
--- "An empty piece eats 0 and changes nothing"; 59 refuses it all the same
-pub feed-none : (r : Receiver) → feedOf r [] ≡ record { refused = pick (soundOf r) 0 59; eaten = 0; outcome = Quiet; receiver = r }
-unfolding feedOf
-feed-none r = by-test (soundOf r) (λ t. rw t) (λ t. rw t)
-
--- 59 is given exactly when the state is not sound
-from-refused : (xs : List ℕ) (n : ℕ) (r : Receiver) → feedFrom n r xs .refused ≡ 0
-from-refused [] n r = refl
-from-refused (x ∷ xs) n r =
-    let ih = from-refused xs (n + 1) (stepOf r x .receiver) in
-    by-test (reportsOf (stepOf r x .outcome)) (λ t. rw t) (λ t. rw t ih)
-
-pub feed-refused : (r : Receiver) (xs : List ℕ) → feedOf r xs .refused ≡ pick (soundOf r) 0 59
-unfolding feedOf
-feed-refused r xs = by-test (soundOf r) (λ t. rw t (from-refused xs 0 r)) (λ t. rw t)
-
-pub silence-refused : (r : Receiver) → silenceOf r .refused ≡ pick (soundOf r) 0 59
-unfolding silenceOf
-silence-refused r = by-test (soundOf r) (λ t. rw t) (λ t. rw t)

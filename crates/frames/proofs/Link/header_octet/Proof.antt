@@ -1,4 +1,4 @@
-use borrow.Author.Tests.{lt-ltb, le-ltb, eq-eqb, ne-eqb}
+use borrow.Author.Tests.{lt-ltb, le-ltb}
 use borrow.Author.Needs.{needs}
 use Rattle.frames.proofs.Link.header_octet.Statement.{statement}
 use Rattle.frames.proofs.Link.header_octet.Tie as tie

@@ -4,10 +4,9 @@ use native.Mathlib.Omega.{arith}
 use lib.ListN.{length, drop}
 use denote.Ref.{now}
 use borrow.Author.Needs.{needs}
-use Rattle.frames.specs.declared.Link.{Link}
 use Rattle.frames.specs.declared.Outcome.the-variants.{Quiet}
 use Rattle.frames.specs.declared.Receiver.{Receiver}
-use Rattle.frames.specs.Step.{Stepped, whole, stepOf, soundOf, fedAt, feedFrom, feedOf}
+use Rattle.frames.specs.Step.{Stepped, whole, soundOf, fedAt, feedFrom, feedOf}
 use Rattle.frames.proofs.Laws.{Sound, sound-step, step-store, turn, report, end, opened}
 use Rattle.frames.proofs.Receiver.feed.Statement.{statement}
 use Rattle.frames.proofs.Receiver.feed.Tie as tie

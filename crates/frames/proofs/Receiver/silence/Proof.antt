@@ -1,4 +1,3 @@
-use mathlib.Core.Path.{_≡_, sym, _∙_}
 use Rattle.frames.specs.Step.{silenceOf, stillOf}
 use borrow.Author.Needs.{needs}
 use Rattle.frames.proofs.Receiver.silence.Statement.{statement}
