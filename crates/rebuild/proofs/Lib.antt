@@ -1,0 +1,4 @@
+pub mod Lookup
+pub mod Seen
+pub mod Giving
+pub mod Numbers
