@@ -2,3 +2,5 @@ pub mod Bounds
 pub mod Spelling
 pub mod Rule
 pub mod Exact
+pub mod Octets
+pub mod Integers

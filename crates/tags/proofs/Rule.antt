@@ -61,7 +61,7 @@ one-exact n x =
         rw (lt-ltb 0 x (omega (arith, eqb-false x 0 e)), pick-same {A = ℕ} (ltb 7 x) 34, e))
 
 -- the sign rule of two octets
-sign-exact : (x y : ℕ) → non (signBad x y) ≡ both (non (both (eqb x 0) (ltb y 128))) (non (both (eqb x 255) (leb 128 y)))
+pub sign-exact : (x y : ℕ) → non (signBad x y) ≡ both (non (both (eqb x 0) (ltb y 128))) (non (both (eqb x 255) (leb 128 y)))
 unfolding signBad
 sign-exact x y =
     by-test (eqb x 0) (λ e. rw (eqb-true x 0 e) (by-test (ltb y 128) (λ d. rw d) (λ d. rw d))) (λ e.
