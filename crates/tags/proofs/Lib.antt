@@ -4,3 +4,4 @@ pub mod Rule
 pub mod Exact
 pub mod Octets
 pub mod Integers
+pub mod Worked

@@ -1,11 +1,11 @@
 -- An item's octets are octets where its contents are.
-use Prim.Native.Nat.{ℕ, zero, suc, _+_, _*_, _/_, _%_, _≤_, _<_}
+use Prim.Native.Nat.{ℕ, zero, suc, _+_, _/_, _%_, _≤_, _<_}
 use native.Mathlib.Omega.{arith}
 use mathlib.Core.List.{List, [], _∷_, _++_}
-use lib.ListN.{length, getD}
+use lib.ListN.{length}
 use lib.Dec.{lit<, ltb}
-use borrow.Author.Tests.{ltb-true, ltb-false}
-use Rattle.octets.specs.Choice.{pick, pick-cases}
+use borrow.Author.Tests.{ltb-true}
+use Rattle.octets.specs.Choice.{pick-cases}
 use Rattle.octets.specs.Reading.{Octets}
 use Rattle.tags.specs.Types.{longest}
 use Rattle.tags.specs.Layout.{Thing, numberOctets, lengthOctets, encode, Valid, contentsOf}
