@@ -3,7 +3,6 @@ mod rows;
 mod search;
 
 use crate::search::Found;
-
 ghost use mathlib.Core.Path.{_≡_};
 ghost use Rattle.messages.specs.Sound.{passes};
 ghost use Rattle.rebuild.specs.View.{keys, view, fresh};

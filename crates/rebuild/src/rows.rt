@@ -1,8 +1,11 @@
 // The rows 51, 52, 53, 55, 54, 50 in that order, and the laying of a segment.
+use crate::Segment;
+use crate::Slot;
+use crate::Slots;
+use crate::Step;
+use crate::Taken;
 use crate::search;
 use crate::search::Found;
-use crate::{Segment, Slot, Slots, Step, Taken};
-
 ghost use mathlib.Core.Path.{_≡_};
 ghost use mathlib.Core.Bool.{true, false};
 ghost use mathlib.Core.Option.{none, some};

@@ -1,6 +1,7 @@
 // The searches of the slots.
-use crate::{Key, Slot, Slots};
-
+use crate::Key;
+use crate::Slot;
+use crate::Slots;
 ghost use mathlib.Core.Path.{_≡_};
 ghost use Prim.Native.Nat.{_+_, _≤_, _<_};
 ghost use lib.ListN.{drop};
