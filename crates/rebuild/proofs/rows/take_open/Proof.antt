@@ -4,8 +4,8 @@ use mathlib.Core.Path.{_≡_, ap, _∙_}
 use mathlib.Core.Option.{some}
 use lib.ListN.{getD}
 use denote.Ref.{now}
-use Rattle.messages.specs.Slots as M
-use Rattle.messages.specs.Rows as R
+use Rattle.messages.specs.Slots as Messages
+use Rattle.messages.specs.Rows as Rules
 use Rattle.messages.proofs.Rows.{open-restart, open-52, open-53, open-on}
 use Rattle.rebuild.specs.View.{keys, view, seen, freeSlot, segmentOf}
 use Rattle.rebuild.specs.declared.Key.{Key}
@@ -14,18 +14,18 @@ use Rattle.rebuild.proofs.Seen.{seen-at}
 use Rattle.rebuild.proofs.rows.take_open.Statement.{statement}
 use Rattle.rebuild.proofs.rows.take_open.Tie as tie
 
-abbrev seg : tie.Start → M.Segment Key
+abbrev seg : tie.Start → Messages.Segment Key
 seg st = segmentOf (st .args .g) (now (st .args .octets))
 
-abbrev box : tie.Start → M.Box Key
-box st = M.boxed (view (st .args .t1)) (now (st .args .area))
+abbrev box : tie.Start → Messages.Box Key
+box st = Messages.boxed (view (st .args .t1)) (now (st .args .area))
 
 -- the record of slot s
-abbrev here : tie.Start → M.Slot Key
+abbrev here : tie.Start → Messages.Slot Key
 here st = seen (getD (st .args .t1 .slots) (st .args .s) freeSlot)
 
-by-record : (st : tie.Start) → R.rows keys (seg st) (some (st .args .s)) (M.slotAt keys (view (st .args .t1)) (st .args .s)) (box st) ≡ R.rows keys (seg st) (some (st .args .s)) (here st) (box st)
-by-record st = ap (λ (x : M.Slot Key). R.rows keys (seg st) (some (st .args .s)) x (box st)) (seen-at (st .args .t1) (st .args .s))
+by-record : (st : tie.Start) → Rules.rows keys (seg st) (some (st .args .s)) (Messages.slotAt keys (view (st .args .t1)) (st .args .s)) (box st) ≡ Rules.rows keys (seg st) (some (st .args .s)) (here st) (box st)
+by-record st = ap (λ (x : Messages.Slot Key). Rules.rows keys (seg st) (some (st .args .s)) x (box st)) (seen-at (st .args .t1) (st .args .s))
 
 returns : tie.Need-returns
 returns c =
