@@ -1,4 +1,5 @@
 use borrow.Author.Needs.{needs}
+use native.Mathlib.Omega.{arith}
 use borrow.Author.Tests.{eq-eqb, ne-eqb}
 use mathlib.Core.Path.{_≡_, ap, _∙_}
 use mathlib.Core.Option.{some}
@@ -35,19 +36,19 @@ returns c =
 returns-2 : tie.Need-returns-2
 returns-2 c =
     let st = c .before .before .before .before .before .before .before .before .before in
-    gives-by (by-record st ∙ open-52 keys (seg st) (box st) (st .args .s) (here st) (ne-eqb _ _ (c .before .before .before .before .before .if1 .left)) (ne-eqb _ _ (c .before .if2 .taken)))
+    gives-by (by-record st ∙ open-52 keys (seg st) (box st) (st .args .s) (here st) (ne-eqb _ _ (c .before .before .before .before .before .if1 .left)) (ne-eqb (st .args .g .number) (here st .next) (λ e. omega (arith, c .before .if2 .taken))))
     (gives-kept (st .args .t1) (now (st .args .area)) 52 (c .kept .ensures))
 
 returns-3 : tie.Need-returns-3
 returns-3 c =
     let st = c .before .before .before .before .before .before .before .before .before .before .before .before in
-    gives-by (by-record st ∙ open-53 keys (seg st) (box st) (st .args .s) (here st) (ne-eqb _ _ (c .before .before .before .before .before .before .before .before .if1 .left)) (eq-eqb _ _ (c .before .before .before .before .if2 .left)) (ne-eqb _ _ (c .before .if3 .taken)))
+    gives-by (by-record st ∙ open-53 keys (seg st) (box st) (st .args .s) (here st) (ne-eqb _ _ (c .before .before .before .before .before .before .before .before .if1 .left)) (eq-eqb (st .args .g .number) (here st .next) (omega (arith, c .before .before .before .before .if2 .left))) (ne-eqb _ _ (c .before .if3 .taken)))
     (gives-kept (st .args .t1) (now (st .args .area)) 53 (c .kept2 .ensures))
 
 returns-4 : tie.Need-returns-4
 returns-4 c =
     let st = c .before .before .before .before .before .before .before .before .before .before .before .before .before .before .before .before in
-    gives-by (by-record st ∙ open-on keys (seg st) (box st) (st .args .s) (here st) (ne-eqb _ _ (c .before .before .before .before .before .before .before .before .before .before .before .before .if1 .left)) (eq-eqb _ _ (c .before .before .before .before .before .before .before .before .if2 .left)) (eq-eqb _ _ (c .before .before .before .before .before .if3 .left))) (c .before .before .fitted2 .ensures)
+    gives-by (by-record st ∙ open-on keys (seg st) (box st) (st .args .s) (here st) (ne-eqb _ _ (c .before .before .before .before .before .before .before .before .before .before .before .before .if1 .left)) (eq-eqb (st .args .g .number) (here st .next) (omega (arith, c .before .before .before .before .before .before .before .before .if2 .left))) (eq-eqb _ _ (c .before .before .before .before .before .if3 .left))) (c .before .before .fitted2 .ensures)
 
 pub take-open-spec : {M : Type 1} → statement M
 take-open-spec =
