@@ -1,6 +1,6 @@
--- What document 01 says of rebuilding, one law for each sentence, and the laws by which code follows the rows.
+-- What document 01 says of rebuilding, one law for each sentence.
 use mathlib.Core.Path.{_≡_, refl, sym, ap, _∙_}
-use mathlib.Core.Bool.{true, false}
+use mathlib.Core.Bool.{Bool, true, false}
 use mathlib.Core.Option.{Option, none, some}
 use mathlib.Core.Logic.{_⊎_, inl, inr}
 use Prim.Native.Nat.{ℕ, _+_, _*_, _<_, _≤_}
@@ -9,52 +9,37 @@ use lib.Dec.{eqb, ltb}
 use lib.ListN.{length, set, take, drop}
 use lib.Seq.{getD-set-same}
 use borrow.Author.Tests.{eqb-true, eqb-false, ne-eqb, le-ltb, ltb-true, ltb-false}
-use Rattle.octets.specs.Choice.{by-test, pick-case}
+use Rattle.octets.specs.Choice.{both, by-test, pick-case}
 use Rattle.octets.specs.Splice.{splice, splice-before, splice-behind}
-use Rattle.messages.specs.Slots.{room, part, Keys, KeyLaws, Segment, Slot, Box, boxed, lowest, empty, slotAt, isFree, slotOf}
-use Rattle.messages.specs.Rows.{Answer, Done, done, kept, lost, awaiting, recordAt, settle, rows, rebuild}
+use Rattle.messages.specs.Slots.{room, part, Keys, KeyLaws, Segment, Slot, Box, boxed, lowest, orElse, empty, slotAt, isFree, slotOf}
+use Rattle.messages.specs.Rows.{Answer, Done, kept, lost, awaiting, settle, settled, fitted, rebuild}
 use Rattle.messages.specs.Rows.Answer.{refused, taken, completed}
 use Rattle.messages.specs.Sound.{Good}
 use Rattle.messages.specs.History.{touches}
-use Rattle.messages.proofs.Tests.{pick-true, pick-false}
 use Rattle.messages.proofs.Step.{Step, stepped, fits, elsewhere}
 use Rattle.messages.proofs.Step.Step.{stays, frees, took}
+use Rattle.messages.proofs.Rows.{rebuild-open, rebuild-new, new-start, open-restart, open-52, fitted-on}
 use Rattle.messages.proofs.Alone.{find-set}
 
 module _ {Key : Type 0} (K : Keys Key) (g : Segment Key) (b : Box Key) where
-  -- ---- the rows, by the slot of the key
-  pub rebuild-open : (i : ℕ) → slotOf K (g .key) (b .slots) ≡ some i → rebuild K g b ≡ rows K g (some i) (slotAt K (b .slots) i) b
-  unfolding rebuild
-  rebuild-open i e = ap (λ (o : Option ℕ). rows K g o (recordAt K (b .slots) o) b) e
-
-  pub rebuild-new : slotOf K (g .key) (b .slots) ≡ none → rebuild K g b ≡ rows K g none (empty K) b
-  unfolding rebuild
-  rebuild-new e = ap (λ (o : Option ℕ). rows K g o (recordAt K (b .slots) o) b) e
-
-  -- by MOR
-  pub settle-more : (i n : ℕ) → g .mor ≡ true
-      → settle K g i n b ≡ done (taken i (n + length (g .octets))) (set (b .slots) i (awaiting K g (n + length (g .octets)))) (splice (b .area) (room * i + n) (g .octets))
-  settle-more i n e = pick-true (g .mor) _ _ e
-
-  pub settle-last : (i n : ℕ) → g .mor ≡ false
-      → settle K g i n b ≡ done (completed i (n + length (g .octets))) (set (b .slots) i (empty K)) (splice (b .area) (room * i + n) (g .octets))
-  settle-last i n e = pick-false (g .mor) _ _ e
-
   -- 52: a repeated or late segment changes nothing
   pub repeated : (i : ℕ) → slotOf K (g .key) (b .slots) ≡ some i → eqb (g .number) 0 ≡ false → eqb (g .number) (slotAt K (b .slots) i .next) ≡ false → rebuild K g b ≡ kept 52 b
-  repeated i e z n = rebuild-open i e ∙ rw (z, n)
+  repeated i e z n = rebuild-open K g b i e ∙ open-52 K g b i (slotAt K (b .slots) i) z n
 
-  no-255 : eqb (g .number) 0 ≡ true → eqb (g .number) 255 ≡ false
-  no-255 z = let e : g .number ≡ 0 = eqb-true (g .number) 0 z in ne-eqb (g .number) 255 (λ d. omega arith)
+  -- number 0 with octets that fit is laid from the slot's first octet
+  begins : (o : Option ℕ) → eqb (g .number) 0 ≡ true → length (g .octets) ≤ room → fitted K g o 0 b ≡ settled K g (orElse o (lowest (isFree K) (b .slots))) 0 b
+  begins o z f =
+      let e : g .number ≡ 0 = eqb-true (g .number) 0 z in
+      fitted-on K g b o 0 (ap (λ (x : Bool). both x (g .mor)) (ne-eqb (g .number) 255 (λ d. omega arith))) (le-ltb room (0 + length (g .octets)) (omega arith))
 
   -- "Number 0 restarts an open key in its slot": whatever its choice, and whether or not another slot is free
   pub restart : (i : ℕ) → slotOf K (g .key) (b .slots) ≡ some i → eqb (g .number) 0 ≡ true → length (g .octets) ≤ room → rebuild K g b ≡ settle K g i 0 b
-  restart i e z f = rebuild-open i e ∙ rw (z, no-255 z, le-ltb room (0 + length (g .octets)) (omega arith))
+  restart i e z f = rebuild-open K g b i e ∙ open-restart K g b i (slotAt K (b .slots) i) z ∙ begins (some i) z f
 
   -- "otherwise the search stops at the lowest free slot"
   pub start : (i : ℕ) → slotOf K (g .key) (b .slots) ≡ none → lowest (isFree K) (b .slots) ≡ some i → eqb (g .number) 0 ≡ true → length (g .octets) ≤ room
       → rebuild K g b ≡ settle K g i 0 b
-  start i e s z f = rebuild-new e ∙ rw (z, no-255 z, le-ltb room (0 + length (g .octets)) (omega arith), s)
+  start i e s z f = rebuild-new K g b e ∙ new-start K g b z ∙ begins none z f ∙ ap (λ (o : Option ℕ). settled K g o 0 b) s
 
 module _ {Key : Type 0} (K : Keys Key) (L : KeyLaws K) (g : Segment Key) (b : Box Key) (G : Good K b) where
   -- ---- a refusal lays nothing, and leaves the slots as they were unless it is 54 or 55

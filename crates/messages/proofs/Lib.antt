@@ -2,6 +2,7 @@ pub mod Tests
 pub mod Area
 pub mod Lowest
 pub mod Step
+pub mod Rows
 pub mod History
 pub mod Sound
 pub mod Alone

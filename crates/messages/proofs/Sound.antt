@@ -2,13 +2,15 @@
 use mathlib.Core.Path.{_≡_, refl, sym, ap, _∙_}
 use mathlib.Core.Bool.{true, false}
 use mathlib.Core.List.{List, [], _∷_}
-use Prim.Native.Nat.{ℕ, zero, suc, _*_, _<_, _≤_}
+use Prim.Native.Nat.{ℕ, zero, suc, _+_, _*_, _<_, _≤_}
 use native.Mathlib.Nat.{not-suc-le-zero, le-of-suc-le-suc}
+use native.Mathlib.Numerals.{add-one}
 use native.Mathlib.Omega.{arith}
 use lib.Dec.{eqb, leb}
-use lib.ListN.{length, replicate, length-set, length-replicate}
-use borrow.Author.Tests.{eqb-true, eq-eqb, le-leb, leb-true}
-use Rattle.octets.specs.Choice.{non, by-test, pick-case}
+use lib.ListN.{length, drop, replicate, drop-of-length-le, length-set, length-replicate}
+use lib.Seq.{drop-cons}
+use borrow.Author.Tests.{eqb-true, eq-eqb, le-leb, lt-leb, leb-true}
+use Rattle.octets.specs.Choice.{both, non, by-test, pick-case}
 use Rattle.messages.specs.Slots.{room, Keys, KeyLaws, Segment, Slot, Box, boxed, lowest, isSome, empty, slotAt, openTo}
 use Rattle.messages.specs.Rows.{Done, rebuild, forgotten, forget}
 use Rattle.messages.specs.Sound.{Good, twice, sound, passes, sizedFor}
@@ -19,6 +21,25 @@ use Rattle.messages.proofs.Lowest.{lowest-some, lowest-none}
 use Rattle.messages.proofs.Step.{Step, stepped, good-rebuild, good-forget}
 use Rattle.messages.proofs.Step.Step.{stays, frees, took}
 
+-- ---- the test, a slot at a time
+module _ {Key : Type 0} (K : Keys Key) (s : List (Slot Key)) (i : ℕ) where
+  sound-at : i < length s
+      → sound K (drop i s) ≡ both (leb (slotAt K s i .held) room) (both (non (twice K (slotAt K s i) (drop (i + 1) s))) (sound K (drop (i + 1) s)))
+  sound-at h = rw (drop-cons s i (empty K) h) (ap (λ (n : ℕ). both (leb (slotAt K s i .held) room) (both (non (twice K (slotAt K s i) (drop n s))) (sound K (drop n s)))) (sym (add-one i)))
+
+  pub sound-over : i < length s → room < slotAt K s i .held → sound K (drop i s) ≡ false
+  sound-over h o = sound-at h ∙ rw (lt-leb (slotAt K s i .held) room o)
+
+  pub sound-twice : i < length s → slotAt K s i .held ≤ room → twice K (slotAt K s i) (drop (i + 1) s) ≡ true → sound K (drop i s) ≡ false
+  sound-twice h o t = sound-at h ∙ rw (le-leb (slotAt K s i .held) room o, t)
+
+  pub sound-on : i < length s → slotAt K s i .held ≤ room → twice K (slotAt K s i) (drop (i + 1) s) ≡ false → sound K (drop i s) ≡ sound K (drop (i + 1) s)
+  sound-on h o t = sound-at h ∙ rw (le-leb (slotAt K s i .held) room o, t)
+
+  pub sound-end : length s ≤ i → sound K (drop i s) ≡ true
+  sound-end h = rw (drop-of-length-le s h)
+
+-- ---- it says what Good says
 module _ {Key : Type 0} (K : Keys Key) (L : KeyLaws K) where
   abbrev Small : List (Slot Key) → Type 0
   Small s = (i : ℕ) → i < length s → slotAt K s i .held ≤ room

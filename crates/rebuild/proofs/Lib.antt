@@ -2,3 +2,4 @@ pub mod Lookup
 pub mod Seen
 pub mod Giving
 pub mod Numbers
+pub mod Page

@@ -9,6 +9,7 @@ ghost use Rattle.rebuild.specs.View.{keys, view, fresh};
 ghost use Rattle.rebuild.specs.Calls.{Gives, taking, Forgets};
 
 // "Key: MS/TP source, MS/TP destination, PDU type, invoke ID."
+#[repr(C)]
 pub struct Key {
     pub source: u8,
     pub destination: u8,
@@ -17,6 +18,7 @@ pub struct Key {
 }
 
 // A slot's record: the number that must come next, the service choice, the octets held. A free slot is all zero.
+#[repr(C)]
 pub struct Slot {
     pub used: bool,
     pub key: Key,
@@ -40,6 +42,7 @@ impl Slot {
     };
 }
 
+#[repr(C)]
 pub struct Slots {
     pub slots: [Slot; 4],
 }

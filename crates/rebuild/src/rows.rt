@@ -15,7 +15,7 @@ ghost use lib.Dec.{eqb};
 ghost use lib.ListN.{length, set};
 ghost use Rattle.octets.specs.Choice.{both};
 ghost use Rattle.messages.specs.Slots.{boxed, slotAt, empty};
-ghost use Rattle.messages.specs.Rows as R;
+ghost use Rattle.messages.specs.Rows as Rules;
 ghost use Rattle.rebuild.specs.View.{keys, view, segmentOf, freeSlot};
 ghost use Rattle.rebuild.specs.Calls.{Gives, Fits};
 
@@ -44,9 +44,10 @@ fn lost(t: Slots, s: usize, n: u8) -> Taken
     requires { ⌜ s < 4 ⌝ }
     ensures { λ r. ⌜ (r .answer ≡ Step.Refused n) × (r .slots .slots ≡ set (t .slots) s freeSlot) ⌝ }
 {
+    let u = with_slot(t, s, Slot::FREE);
     Taken {
         answer: Step::Refused(n),
-        slots: with_slot(t, s, Slot::FREE),
+        slots: u,
     }
 }
 
@@ -64,7 +65,7 @@ fn last_number(g: Segment) -> bool
 // The segment laid in slot s behind n octets: held there, or complete and the slot freed.
 fn settle(t: Slots, s: usize, n: usize, g: Segment, octets: &[u8], area: &mut [u8]) -> Taken
     requires { ⌜ Fits s n (now octets) (now area) × (both (eqb (g .number) 255) (g .mor) ≡ false) ⌝ }
-    ensures { λ r. ⌜ Gives (R.settle keys (segmentOf g (now (octets .entry))) s n (boxed (view t) (now (area .entry)))) r (now (area .exit)) ⌝ }
+    ensures { λ r. ⌜ Gives (Rules.settle keys (segmentOf g (now (octets .entry))) s n (boxed (view t) (now (area .entry)))) r (now (area .exit)) ⌝ }
 {
     octets::copy(octets, area, 16384 * s + n);
     let slot = s as u8;
@@ -93,7 +94,7 @@ fn settle(t: Slots, s: usize, n: usize, g: Segment, octets: &[u8], area: &mut [u
 // 55 and 54 free the key's slot s, where n octets stand before the segment's; else it is laid there.
 fn fitted(t: Slots, s: usize, n: usize, g: Segment, octets: &[u8], area: &mut [u8]) -> Taken
     requires { ⌜ (s < 4) × ((n ≤ 65535) × (length (now area) ≡ 65536)) ⌝ }
-    ensures { λ r. ⌜ Gives (R.fitted keys (segmentOf g (now (octets .entry))) (some s) n (boxed (view t) (now (area .entry)))) r (now (area .exit)) ⌝ }
+    ensures { λ r. ⌜ Gives (Rules.fitted keys (segmentOf g (now (octets .entry))) (some s) n (boxed (view t) (now (area .entry)))) r (now (area .exit)) ⌝ }
 {
     if last_number(g) {
         return lost(t, s, 55);
@@ -107,7 +108,7 @@ fn fitted(t: Slots, s: usize, n: usize, g: Segment, octets: &[u8], area: &mut [u
 // A segment of a key that is open in slot s.
 pub fn take_open(t: Slots, s: usize, g: Segment, octets: &[u8], area: &mut [u8]) -> Taken
     requires { ⌜ (s < 4) × (length (now area) ≡ 65536) ⌝ }
-    ensures { λ r. ⌜ Gives (R.rows keys (segmentOf g (now (octets .entry))) (some s) (slotAt keys (view t) s) (boxed (view t) (now (area .entry)))) r (now (area .exit)) ⌝ }
+    ensures { λ r. ⌜ Gives (Rules.rows keys (segmentOf g (now (octets .entry))) (some s) (slotAt keys (view t) s) (boxed (view t) (now (area .entry)))) r (now (area .exit)) ⌝ }
 {
     if g.number == 0 {
         return fitted(t, s, 0, g, octets, area);
@@ -126,7 +127,7 @@ pub fn take_open(t: Slots, s: usize, g: Segment, octets: &[u8], area: &mut [u8])
 // A segment of a key that is not open.
 pub fn take_new(t: Slots, g: Segment, octets: &[u8], area: &mut [u8]) -> Taken
     requires { ⌜ length (now area) ≡ 65536 ⌝ }
-    ensures { λ r. ⌜ Gives (R.rows keys (segmentOf g (now (octets .entry))) none (empty keys) (boxed (view t) (now (area .entry)))) r (now (area .exit)) ⌝ }
+    ensures { λ r. ⌜ Gives (Rules.rows keys (segmentOf g (now (octets .entry))) none (empty keys) (boxed (view t) (now (area .entry)))) r (now (area .exit)) ⌝ }
 {
     if g.number != 0 {
         return kept(t, 51);

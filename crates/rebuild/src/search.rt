@@ -5,8 +5,8 @@ use crate::Slots;
 ghost use mathlib.Core.Path.{_≡_};
 ghost use Prim.Native.Nat.{_+_, _≤_, _<_};
 ghost use lib.ListN.{drop};
-ghost use Rattle.messages.specs.Slots as M;
-ghost use Rattle.messages.specs.Sound as MS;
+ghost use Rattle.messages.specs.Slots.{lowest, openTo, isFree, slotAt};
+ghost use Rattle.messages.specs.Sound as Sound;
 ghost use Rattle.rebuild.specs.View.{keys, seen, view, sameKey, found};
 
 // A slot's number, or none.
@@ -33,7 +33,7 @@ pub fn same_key(a: Key, b: Key) -> bool
 
 // Whether a slot is open and has the key.
 fn open_to(x: Slot, k: Key) -> bool
-    ensures { λ r. ⌜ r ≡ M.openTo keys k (seen x) ⌝ }
+    ensures { λ r. ⌜ r ≡ openTo keys k (seen x) ⌝ }
 {
     let used = x.used;
     if !used {
@@ -46,7 +46,7 @@ fn open_to(x: Slot, k: Key) -> bool
 // The lowest slot from a place on that is open and has the key.
 pub fn open_slot(t: Slots, k: Key, start: usize) -> Found
     requires { ⌜ start ≤ 4 ⌝ }
-    ensures { λ r. ⌜ r ≡ found start (M.lowest (M.openTo keys k) (drop start (view t))) ⌝ }
+    ensures { λ r. ⌜ r ≡ found start (lowest (openTo keys k) (drop start (view t))) ⌝ }
 {
     let mut s = start;
     let slot = loop {
@@ -64,7 +64,7 @@ pub fn open_slot(t: Slots, k: Key, start: usize) -> Found
 
 // "the search stops at the lowest free slot"
 pub fn lowest_free(t: Slots) -> Found
-    ensures { λ r. ⌜ r ≡ found 0 (M.lowest (M.isFree keys) (view t)) ⌝ }
+    ensures { λ r. ⌜ r ≡ found 0 (lowest (isFree keys) (view t)) ⌝ }
 {
     let mut s = 0;
     let slot = loop {
@@ -84,7 +84,7 @@ pub fn lowest_free(t: Slots) -> Found
 // Whether slot s is open and a later open slot has its key.
 pub fn twice(t: Slots, s: usize) -> bool
     requires { ⌜ s < 4 ⌝ }
-    ensures { λ r. ⌜ r ≡ MS.twice keys (M.slotAt keys (view t) s) (drop (s + 1) (view t)) ⌝ }
+    ensures { λ r. ⌜ r ≡ Sound.twice keys (slotAt keys (view t) s) (drop (s + 1) (view t)) ⌝ }
 {
     let x = t.slots[s];
     let used = x.used;

@@ -1,25 +1,22 @@
 use borrow.Author.Needs.{needs}
 use borrow.Author.Tests.{eq-eqb}
 use native.Mathlib.Omega.{arith}
-use Prim.Native.Nat.{ℕ, _≤_, _<_, _-_}
+use Prim.Native.Nat.{ℕ, _≤_, _-_}
 use mathlib.Core.Path.{_≡_, refl, sym, ap, _∙_}
-use mathlib.Core.Bool.{Bool, true, false}
-use lib.Dec.{eqb}
+use mathlib.Core.Bool.{Bool}
 use lib.ListN.{drop, length, getD}
 use Rattle.octets.specs.Choice.{both}
-use Rattle.messages.specs.Slots as M
-use Rattle.messages.specs.Sound as MS
+use Rattle.messages.specs.Slots as Messages
+use Rattle.messages.specs.Sound as Sound
 use Rattle.messages.proofs.Sound.{sound-over, sound-twice, sound-on, sound-end}
 use Rattle.rebuild.specs.View.{keys, view, freeSlot}
 use Rattle.rebuild.specs.declared.Key.{Key}
 use Rattle.rebuild.proofs.Seen.{at-view, length-of-map, length-view}
 use Rattle.rebuild.proofs.sound.Statement.{statement}
 use Rattle.rebuild.proofs.sound.Tie as tie
-use Rattle.rebuild.proofs.sound.Reads as reads
-use Rattle.rebuild.proofs.sound.Lts as lts
 
 abbrev Inv-loop : tie.InvT-loop
-Inv-loop slots s₀ s = (s ≤ 4) × (MS.sound keys (view slots) ≡ MS.sound keys (drop s (view slots)))
+Inv-loop slots s₀ s = (s ≤ 4) × (Sound.sound keys (view slots) ≡ Sound.sound keys (drop s (view slots)))
 
 abbrev μ-loop : tie.MeasureT-loop
 μ-loop slots s₀ s = 4 - s
@@ -28,12 +25,12 @@ four : (st : tie.Start Inv-loop μ-loop) → length (view (st .args .t1)) ≡ 4
 four st = length-view (st .args .t1) 4 (search (length-of-map, st .good))
 
 -- there are four, so the rest is the test
-tested : (st : tie.Start Inv-loop μ-loop) → MS.passes keys 4 (view (st .args .t1)) ≡ MS.sound keys (view (st .args .t1))
-tested st = ap (λ (x : Bool). both x (MS.sound keys (view (st .args .t1)))) (eq-eqb (length (view (st .args .t1))) 4 (four st))
+tested : (st : tie.Start Inv-loop μ-loop) → Sound.passes keys 4 (view (st .args .t1)) ≡ Sound.sound keys (view (st .args .t1))
+tested st = ap (λ (x : Bool). both x (Sound.sound keys (view (st .args .t1)))) (eq-eqb (length (view (st .args .t1))) 4 (four st))
 
 -- the octets that a slot holds
-held-at : (st : tie.Start Inv-loop μ-loop) (i : ℕ) → M.slotAt keys (view (st .args .t1)) i .held ≡ getD (st .args .t1 .slots) i freeSlot .held
-held-at st i = at-view (λ (x : M.Slot Key). x .held) (st .args .t1) i
+held-at : (st : tie.Start Inv-loop μ-loop) (i : ℕ) → Messages.slotAt keys (view (st .args .t1)) i .held ≡ getD (st .args .t1 .slots) i freeSlot .held
+held-at st i = at-view (λ (x : Messages.Slot Key). x .held) (st .args .t1) i
 
 loop-holds : tie.Need-loop-holds Inv-loop μ-loop
 loop-holds c = (omega arith, refl)

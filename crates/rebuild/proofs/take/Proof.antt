@@ -1,11 +1,10 @@
 use borrow.Author.Needs.{needs}
-use native.Mathlib.Omega.{arith}
 use Prim.Native.Nat.{ℕ}
 use mathlib.Core.Path.{_≡_, sym, _∙_}
 use mathlib.Core.Option.{Option, some}
 use lib.ListN.{length}
 use denote.Ref.{now}
-use Rattle.messages.specs.Slots as M
+use Rattle.messages.specs.Slots as Messages
 use Rattle.messages.proofs.Rows.{rebuild-open, rebuild-new}
 use Rattle.rebuild.specs.View.{keys, view, segmentOf}
 use Rattle.rebuild.specs.declared.Key.{Key}
@@ -14,17 +13,15 @@ use Rattle.rebuild.proofs.Lookup.{found-at, found-none}
 use Rattle.rebuild.proofs.Seen.{found-below, length-of-map}
 use Rattle.rebuild.proofs.take.Statement.{statement}
 use Rattle.rebuild.proofs.take.Tie as tie
-use Rattle.rebuild.proofs.take.Reads as reads
-use Rattle.rebuild.proofs.take.Lts as lts
 
-abbrev seg : tie.Start → M.Segment Key
+abbrev seg : tie.Start → Messages.Segment Key
 seg st = segmentOf (st .args .g) (now (st .args .octets))
 
-abbrev box : tie.Start → M.Box Key
-box st = M.boxed (view (st .args .slots)) (now (st .args .area))
+abbrev box : tie.Start → Messages.Box Key
+box st = Messages.boxed (view (st .args .slots)) (now (st .args .area))
 
 abbrev mine : tie.Start → Option ℕ
-mine st = M.slotOf keys (st .args .g .key) (view (st .args .slots))
+mine st = Messages.slotOf keys (st .args .g .key) (view (st .args .slots))
 
 four : (st : tie.Start) → length (st .args .slots .slots) ≡ 4
 four st = search (length-of-map, st .good)
@@ -38,7 +35,7 @@ take-open-requires : tie.Need-take-open-requires
 take-open-requires c κs =
     let st = c .before .before .before .before .before .before .before .before .before in
     let o : mine st ≡ some _ = found-at (mine st) _ (sym (c .before .before .before .before .open-slot .ensures) ∙ c .before .before .s .given .1) in
-    (found-below (M.openTo keys (st .args .g .key)) (st .args .slots) _ 4 (four st) o, c .before .before .before .before .before .before .if1 .left)
+    (found-below (Messages.openTo keys (st .args .g .key)) (st .args .slots) _ 4 (four st) o, c .before .before .before .before .before .before .if1 .left)
 
 returns-2 : tie.Need-returns-2
 returns-2 c =

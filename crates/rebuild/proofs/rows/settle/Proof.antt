@@ -6,8 +6,6 @@ use Rattle.rebuild.proofs.Giving.{gives-more, gives-last}
 use Rattle.rebuild.proofs.Numbers.{next-fits}
 use Rattle.rebuild.proofs.rows.settle.Statement.{statement}
 use Rattle.rebuild.proofs.rows.settle.Tie as tie
-use Rattle.rebuild.proofs.rows.settle.Reads as reads
-use Rattle.rebuild.proofs.rows.settle.Lts as lts
 
 add-t18 : tie.Need-add-t18
 add-t18 c =
