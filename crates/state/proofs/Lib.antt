@@ -1,0 +1,4 @@
+pub mod Areas
+pub mod Back
+pub mod Stands
+pub mod Exact
