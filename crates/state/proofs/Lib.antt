@@ -2,3 +2,4 @@ pub mod Areas
 pub mod Back
 pub mod Stands
 pub mod Exact
+pub mod Values
