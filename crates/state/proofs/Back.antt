@@ -1,22 +1,20 @@
 -- Where a state's octets stand, they are loaded as that state.
-use Prim.Native.Nat.{ℕ, zero, suc, _+_, _*_, _/_, _%_, _≤_, _<_}
+use Prim.Native.Nat.{ℕ, _+_, _*_, _/_, _%_, _≤_, _<_}
 use native.Mathlib.Omega.{arith}
-use native.Mathlib.Nat.{zero-add}
-use mathlib.Core.Path.{_≡_, refl, sym, ap, _∙_}
+use mathlib.Core.Path.{_≡_, refl}
 use mathlib.Core.Bool.{Bool, true, false}
 use mathlib.Core.List.{List, [], _∷_, _++_}
-use lib.Dec.{eqb, leb, lit<, lit≤}
+use lib.Dec.{eqb, leb, lit<}
 use lib.ListN.{length, getD, take, drop}
-use borrow.Author.Tests.{eq-eqb, ne-eqb, le-leb}
 use Rattle.octets.specs.Reading.{oct}
-use Rattle.octets.specs.Has.{Has, has-left, has-right, has-at, has-cut, all-has}
+use Rattle.octets.specs.Has.{Has, has-left, has-right, has-at, has-cut}
 use Rattle.frames.specs.declared.Phase.{Phase}
 use Rattle.frames.specs.declared.Phase.the-variants.{Hunting, Preamble, Header, Data}
 use Rattle.rebuild.specs.declared.Slot.{Slot}
 use Rattle.collector.specs.declared.Collector.{Collector}
-use Rattle.state.specs.Layout.{phaseOctets, flag, slotOctets, slotsOctets, stateOctets, PhaseFits, Fits}
+use Rattle.state.specs.Layout.{phaseOctets, flag, slotOctets, slotsOctets, stateOctets, Fits}
 use Rattle.state.specs.Calls.{phaseGood, phaseAt, slotsGood, slotAt, stateGood, stateAt}
-use Rattle.state.proofs.Areas.{phase-size, slots-size}
+use Rattle.state.proofs.Areas.{phase-size}
 
 two-back : (v : ℕ) → v / 256 * 256 + v % 256 ≡ v
 two-back v = omega arith

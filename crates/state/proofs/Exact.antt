@@ -1,13 +1,12 @@
 -- State to octets and back is the same state: octets are loaded as c exactly when they are c's octets.
-use Prim.Native.Nat.{ℕ, _≤_}
+use Prim.Native.Nat.{ℕ}
 use native.Mathlib.Omega.{arith}
-use mathlib.Core.Path.{_≡_, refl, sym, ap, subst, _∙_}
-use mathlib.Core.Bool.{Bool, true, false}
+use mathlib.Core.Path.{_≡_, ap, subst, _∙_}
 use mathlib.Core.List.{List}
 use lib.Dec.{eqb}
 use lib.ListN.{length}
 use borrow.Author.Tests.{eq-eqb, eqb-true}
-use Rattle.octets.specs.Choice.{pick, pick-so}
+use Rattle.octets.specs.Choice.{pick-so}
 use Rattle.octets.specs.Reading.{Octets}
 use Rattle.octets.specs.Has.{all-has}
 use Rattle.octets.specs.Exact.{Exactly}

@@ -2,23 +2,20 @@
 use Prim.Native.Nat.{ℕ, zero, suc, _+_, _*_, _/_, _%_, _≤_, _<_}
 use native.Mathlib.Omega.{arith}
 use native.Mathlib.Nat.{add-assoc}
-use mathlib.Core.Path.{_≡_, refl, sym, ap, _∙_}
+use mathlib.Core.Path.{_≡_, refl, sym, _∙_}
 use mathlib.Core.Bool.{Bool, true, false}
 use mathlib.Core.List.{List, [], _∷_, _++_}
 use lib.Dec.{eqb, leb, ltb, lit<, lit≤}
 use lib.ListN.{length, getD, take, drop, length-take, length-drop, length-append, List·getD-eq-default}
 use lib.Seq.{getD-take, getD-drop, length-take-le}
-use borrow.Author.Tests.{eq-eqb, ne-eqb, le-leb, lt-leb, leb-true, eqb-true, eqb-false, ltb-true, ltb-false}
-use Rattle.octets.specs.Choice.{pick, both, by-test, pick-so}
+use borrow.Author.Tests.{ne-eqb, lt-leb, leb-true, eqb-true, ltb-true, ltb-false}
+use Rattle.octets.specs.Choice.{both, by-test, pick-so}
 use Rattle.octets.specs.Reading.{oct, Octets}
 use Rattle.octets.specs.Has.{Has, has-append, has-take, has-all}
-use Rattle.frames.specs.declared.Phase.{Phase}
-use Rattle.frames.specs.declared.Phase.the-variants.{Hunting, Preamble, Header, Data}
-use Rattle.rebuild.specs.declared.Slot.{Slot}
 use Rattle.collector.specs.declared.Collector.{Collector}
 use Rattle.state.specs.Layout.{phaseOctets, flag, slotOctets, slotsOctets, stateOctets, PhaseFits, SlotFits, Fits}
 use Rattle.state.specs.Calls.{phaseGood, phaseAt, slotsGood, slotAt, stateGood, stateAt}
-use Rattle.state.proofs.Areas.{phase-size, receiver-size, slots-size, state-parts}
+use Rattle.state.proofs.Areas.{receiver-size, slots-size, state-parts}
 
 -- what is cut out of octets is octets
 pub octets-cut : (o : List ℕ) → Octets o → (n at : ℕ) → Octets (take n (drop at o))

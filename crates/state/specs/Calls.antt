@@ -1,12 +1,12 @@
 -- Loading a state from a lent area, and saving it there. "60, then 59": an area of another size is 60, octets that are no state's are 59.
 use Prim.Native.Nat.{ℕ, _+_, _*_}
 use mathlib.Core.Path.{_≡_}
-use mathlib.Core.Bool.{Bool, true, false}
+use mathlib.Core.Bool.{Bool, false}
 use mathlib.Core.List.{List, [], _∷_}
 use lib.Dec.{eqb, leb}
 use lib.ListN.{length, take, drop}
 use Rattle.octets.specs.Choice.{pick, both}
-use Rattle.octets.specs.Reading.{oct, be16}
+use Rattle.octets.specs.Reading.{oct}
 use Rattle.frames.specs.declared.Phase.{Phase}
 use Rattle.frames.specs.declared.Phase.the-variants.{Hunting, Preamble, Header, Data}
 use Rattle.rebuild.specs.declared.Slot.{Slot}
