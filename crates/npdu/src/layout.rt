@@ -82,9 +82,9 @@ fn put_part(out: &mut [u8], at: usize, here: bool, net: u16, len: u8, adr: [u8; 
 {
     if here {
         let k = len as usize;
-        octets::put(out, at, (net / 256) as u8);
-        octets::put(out, at + 1, (net % 256) as u8);
-        octets::put(out, at + 2, len);
+        out[at] = (net / 256) as u8;
+        out[at + 1] = (net % 256) as u8;
+        out[at + 2] = len;
         octets::copy(&adr[..k], out, at + 3);
     }
 }
@@ -96,12 +96,12 @@ fn put_message(out: &mut [u8], at: usize, here: bool, kind: u8, vendor: u16)
 {
     if here {
         if kind < 128 {
-            octets::put(out, at, kind);
+            out[at] = kind;
             return;
         }
-        octets::put(out, at, kind);
-        octets::put(out, at + 1, (vendor / 256) as u8);
-        octets::put(out, at + 2, (vendor % 256) as u8);
+        out[at] = kind;
+        out[at + 1] = (vendor / 256) as u8;
+        out[at + 2] = (vendor % 256) as u8;
     }
 }
 
@@ -124,7 +124,7 @@ fn put_tail(out: &mut [u8], at: usize, h: Npdu)
 {
     let dest = h.dest;
     if dest {
-        octets::put(out, at, h.hops);
+        out[at] = h.hops;
         put_message(out, at + 1, h.message, h.kind, h.vendor);
         return;
     }
@@ -137,8 +137,8 @@ pub fn put_head(out: &mut [u8], h: Npdu)
     ensures { λ _. ⌜ now (out .exit) ≡ splice (now (out .entry)) 0 (encode h) ⌝ }
 {
     let k = part_size(h.dest, h.dlen) + part_size(h.source, h.slen);
-    octets::put(out, 0, 1);
-    octets::put(out, 1, control(h));
+    out[0] = 1;
+    out[1] = control(h);
     put_parts(out, 2, h);
     put_tail(out, 2 + k, h);
 }

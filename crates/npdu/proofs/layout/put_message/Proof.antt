@@ -1,13 +1,14 @@
 use native.Mathlib.Omega.{arith}
+use native.Mathlib.Numerals.{towards-suc}
 use Prim.Native.Nat.{_+_, _/_, _%_, _≤_}
 use mathlib.Core.Path.{_≡_}
 use mathlib.Core.Bool.{true}
 use mathlib.Core.List.{[], _∷_}
-use lib.ListN.{length}
+use lib.ListN.{length, length-set}
 use denote.Ref.{now}
 use Rattle.octets.specs.Choice.{given-true}
 use Rattle.octets.specs.Rules.{tests, flags}
-use Rattle.octets.specs.Splice.{splice-nil, splice-then}
+use Rattle.octets.specs.Splice.{splice-nil, splice-set, splice-sets}
 use Rattle.npdu.specs.Layout.{messageLaid, messageOctets}
 use Rattle.npdu.specs.Size.{kindSize, messageSize}
 use borrow.Author.Needs.{needs}
@@ -24,25 +25,23 @@ unfolding kindSize messageLaid messageOctets
 put-message-spec =
     tie.close
     (tie.spec
-    (λ c κs. let e : kindSize (c .before .before .before .before .args .kind) ≡ 1 = search (needs, tests) in omega (arith, e, room (c .before .before .before .before) (c .before .before .if1 .taken)))
+    (λ c. let e : kindSize (c .before .before .args .kind) ≡ 1 = search (needs, tests) in omega (arith, e, room (c .before .before) (c .before .if1 .taken)))
     (λ c. search needs)
-    (λ c. rw (given-true _ _ _ (c .before .before .before .before .before .if1 .taken)) (search (needs, tests)))
-    (λ c κs. let e : kindSize (c .before .before .before .before .args .kind) ≡ 3 = search (needs, tests) in omega (arith, e, room (c .before .before .before .before) (c .before .before .if1 .taken)))
+    (λ c. let a = c .before .before .args in
+    let k : kindSize (a .kind) ≡ 1 = search (needs, tests) in
+    let e : messageLaid (a .kind) (a .vendor) ≡ a .kind ∷ [] = search (needs, tests) in
+    rw (given-true _ _ _ (c .before .if1 .taken), e) (splice-set (now (a .out)) (a .at) (a .kind) (omega (arith, room (c .before .before) (c .before .if1 .taken)))))
+    (λ c. let e : kindSize (c .before .before .args .kind) ≡ 3 = search (needs, tests) in omega (arith, e, room (c .before .before) (c .before .if1 .taken)))
     (λ c. search needs)
     (λ c. search needs)
-    (λ c κs. let e : kindSize (c .before .before .before .before .before .before .before .before .args .kind) ≡ 3 = search (needs, tests) in omega (arith, e, room (c .before .before .before .before .before .before .before .before) (c .before .before .before .before .before .before .if1 .taken)))
+    (λ c. let e : kindSize (c .before .before .args .kind) ≡ 3 = search (needs, tests) in let r = room (c .before .before) (c .before .if1 .taken) in simp length-set (omega arith))
     (λ c. search needs)
     (λ c. search needs)
-    (λ c κs. let e : kindSize (c .before .before .before .before .before .before .before .before .before .before .before .before .args .kind) ≡ 3 = search (needs, tests) in omega (arith, e, room (c .before .before .before .before .before .before .before .before .before .before .before .before) (c .before .before .before .before .before .before .before .before .before .before .if1 .taken)))
+    (λ c. let e : kindSize (c .before .before .args .kind) ≡ 3 = search (needs, tests) in let r = room (c .before .before) (c .before .if1 .taken) in simp length-set (omega arith))
     (λ c. search needs)
-    (λ c. let st = c .before .before .before .before .before .before .before .before .before .before .before .before .before .before .before in
-    let a = st .args in
-    let o = now (a .out) in
+    (λ c. let a = c .before .before .args in
     let k : kindSize (a .kind) ≡ 3 = search (needs, tests) in
-    let r = room st (c .before .before .before .before .before .before .before .before .before .before .before .before .before .if1 .taken) in
     let e : messageLaid (a .kind) (a .vendor) ≡ a .kind ∷ a .vendor / 256 ∷ a .vendor % 256 ∷ [] = search (needs, tests) in
-    rw (given-true _ _ _ (c .before .before .before .before .before .before .before .before .before .before .before .before .before .if1 .taken), e)
-    (splice-then o (a .at) (a .kind ∷ a .vendor / 256 ∷ []) (a .vendor % 256 ∷ []) (omega arith)
-    (splice-then o (a .at) (a .kind ∷ []) (a .vendor / 256 ∷ []) (omega arith) (c .before .before .before .before .before .before .before .before .before .before .put2 .ensures) (c .before .before .before .before .before .before .put3 .ensures))
-    (c .before .before .put4 .ensures)))
+    rw (given-true _ _ _ (c .before .if1 .taken), e)
+    (simp towards-suc (splice-sets (now (a .out)) (a .at) (a .kind ∷ a .vendor / 256 ∷ a .vendor % 256 ∷ []) (omega (arith, room (c .before .before) (c .before .if1 .taken))))))
     (λ c. search (needs, flags, splice-nil)))

@@ -1,14 +1,15 @@
 use native.Mathlib.Omega.{arith}
+use native.Mathlib.Numerals.{towards-suc}
 use Prim.Native.Nat.{_+_, _/_, _%_, _≤_}
-use mathlib.Core.Path.{_≡_, sym}
+use mathlib.Core.Path.{_≡_, sym, _∙_}
 use mathlib.Core.Bool.{true}
 use mathlib.Core.List.{[], _∷_}
-use lib.ListN.{length, take}
+use lib.ListN.{length, take, set, length-set}
 use lib.Seq.{length-take-le}
 use denote.Ref.{now}
 use Rattle.octets.specs.Choice.{given-true}
 use Rattle.octets.specs.Rules.{flags}
-use Rattle.octets.specs.Splice.{splice-nil, splice-then}
+use Rattle.octets.specs.Splice.{splice, splice-nil, splice-then, splice-sets}
 use Rattle.npdu.specs.Layout.{partLaid, partOctets}
 use Rattle.npdu.specs.Size.{partSize}
 use borrow.Author.Needs.{needs}
@@ -29,29 +30,26 @@ put-part-spec =
     tie.close
     (tie.spec
     (λ c. search needs)
-    (λ c κs. let r = room (c .before .before .before) (c .before .if1 .taken) in omega arith)
+    (λ c. let r = room (c .before .before) (c .if1 .taken) in omega arith)
     (λ c. search needs)
     (λ c. search needs)
-    (λ c κs. let r = room (c .before .before .before .before .before .before .before) (c .before .before .before .before .before .if1 .taken) in omega arith)
+    (λ c. let r = room (c .before .before) (c .if1 .taken) in simp length-set (omega arith))
     (λ c. search needs)
-    (λ c κs. let r = room (c .before .before .before .before .before .before .before .before .before .before .before) (c .before .before .before .before .before .before .before .before .before .if1 .taken) in omega arith)
-    (λ c. let r = room (c .before .before .before .before .before .before .before .before .before .before .before .before .before .before) (c .before .before .before .before .before .before .before .before .before .before .before .before .if1 .taken) in omega (arith, seven (c .before .before .before .before .before .before .before .before .before .before .before .before .before .before)))
-    (λ c. let r = room (c .before .before .before .before .before .before .before .before .before .before .before .before .before .before .before) (c .before .before .before .before .before .before .before .before .before .before .before .before .before .if1 .taken) in sym (length-take-le _ _ (omega (arith, seven (c .before .before .before .before .before .before .before .before .before .before .before .before .before .before .before)))))
+    (λ c. let r = room (c .before .before) (c .if1 .taken) in simp length-set (omega arith))
+    (λ c. let r = room (c .before .before) (c .if1 .taken) in omega (arith, seven (c .before .before)))
+    (λ c. let r = room (c .before .before .before) (c .before .if1 .taken) in sym (length-take-le _ _ (omega (arith, seven (c .before .before .before)))))
     (λ c. search needs)
-    (λ c κs. let st = c .before .before .before .before .before .before .before .before .before .before .before .before .before .before .before .before in
-    let r = room st (c .before .before .before .before .before .before .before .before .before .before .before .before .before .before .if1 .taken) in
+    (λ c κs. let st = c .before .before .before .before in
+    let r = room st (c .before .before .if1 .taken) in
     let e : length (take (st .args .len) (st .args .t6)) ≡ st .args .len = length-take-le _ _ (omega (arith, seven st)) in
-    rw e (omega (arith, c .before .before .before .before .put3 .kept, c .before .before .before .before .before .before .before .before .put2 .kept, c .before .before .before .before .before .before .before .before .before .before .before .before .put .kept)))
-    (λ c. search needs)
-    (λ c. let st = c .before .before .before .before .before .before .before .before .before .before .before .before .before .before .before .before .before .before .before in
+    rw e (simp length-set (omega arith)))
+    (λ c. omega (arith, simp length-set at (c .before .before .copy .kept)))
+    (λ c. let st = c .before .before .before .before .before .before .before in
     let a = st .args in
     let o = now (a .out) in
-    let r = room st (c .before .before .before .before .before .before .before .before .before .before .before .before .before .before .before .before .before .if1 .taken) in
+    let r = room st (c .before .before .before .before .before .if1 .taken) in
     let e : length (take (a .len) (a .t6)) ≡ a .len = length-take-le _ _ (omega (arith, seven st)) in
-    rw (given-true _ _ _ (c .before .before .before .before .before .before .before .before .before .before .before .before .before .before .before .before .before .if1 .taken))
-    (splice-then o (a .at) (a .net / 256 ∷ a .net % 256 ∷ a .len ∷ []) _ (rw e (omega arith))
-    (splice-then o (a .at) (a .net / 256 ∷ a .net % 256 ∷ []) (a .len ∷ []) (omega arith)
-    (splice-then o (a .at) (a .net / 256 ∷ []) (a .net % 256 ∷ []) (omega arith) (c .before .before .before .before .before .before .before .before .before .before .before .before .before .before .before .put .ensures) (c .before .before .before .before .before .before .before .before .before .before .before .put2 .ensures))
-    (c .before .before .before .before .before .before .before .put3 .ensures))
-    (c .before .before .copy .ensures)))
+    let f : set (set (set o (a .at) (a .net / 256)) (a .at + 1) (a .net % 256)) (a .at + 2) (a .len) ≡ splice o (a .at) (a .net / 256 ∷ a .net % 256 ∷ a .len ∷ []) =
+    simp towards-suc (splice-sets o (a .at) (a .net / 256 ∷ a .net % 256 ∷ a .len ∷ []) (omega arith)) in
+    rw (given-true _ _ _ (c .before .before .before .before .before .if1 .taken)) (splice-then o (a .at) (a .net / 256 ∷ a .net % 256 ∷ a .len ∷ []) (take (a .len) (a .t6)) (rw e (omega arith)) f (c .before .before .copy .ensures)))
     (λ c. search (needs, flags, splice-nil)))
