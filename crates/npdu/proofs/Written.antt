@@ -1,24 +1,24 @@
 -- What a writer's promise says of the octets that it leaves, and that each public call promises one answer.
-use Prim.Native.Nat.{ℕ, _≤_, _<_}
-use mathlib.Core.Path.{_≡_, refl, sym, ap, _∙_}
-use mathlib.Core.List.{List, _++_}
-use mathlib.Core.Bool.{Bool, true, false, false≢true}
-use lib.ListN.{length, drop}
-use lib.Dec.{ltb, eqb}
+use Prim.Native.Nat.{ℕ}
 use native.Mathlib.Omega.{arith}
+use mathlib.Core.Bool.{Bool, true, false}
+use mathlib.Core.List.{List, _++_}
+use mathlib.Core.Path.{_≡_, refl, sym, _∙_}
+use lib.Dec.{ltb, eqb}
+use lib.ListN.{length, drop}
 use borrow.Author.Tests.{ne-eqb, le-ltb, eqb-true}
-use Rattle.octets.specs.Choice.{pick, given, by-test}
+use Rattle.octets.specs.Choice.{given, by-test}
 use Rattle.octets.specs.Laid.{Laid, answerOf, areaOf, laid-one}
 use Rattle.octets.specs.declared.Written.{Written}
 use Rattle.octets.specs.declared.Written.the-variants.{Wrote, Refused}
+use Rattle.npdu.specs.Fault.{partRules, partFault, sooner, faultOf}
+use Rattle.npdu.specs.Follow.{accepted}
+use Rattle.npdu.specs.Layout.{encode, shown, PartValid, Ruled, Kept}
+use Rattle.npdu.specs.Read.{readNpdu}
 use Rattle.npdu.specs.declared.Npdu.{Npdu}
 use Rattle.npdu.specs.declared.Reading.{Reading}
-use Rattle.npdu.specs.Layout.{encode, shown, PartValid, Ruled, Kept}
-use Rattle.npdu.specs.Fault.{partRules, partFault, sooner, faultOf}
-use Rattle.npdu.specs.Read.{readNpdu}
-use Rattle.npdu.specs.Follow.{accepted}
-use Rattle.npdu.proofs.Sizes.{fault-none}
 use Rattle.npdu.proofs.Exact.{reads-written}
+use Rattle.npdu.proofs.Sizes.{fault-none}
 
 -- a header that keeps to the rules is not refused
 rules-fine : (here : Bool) (net len low top : ℕ) → (here ≡ true → PartValid net len low top) → partFault here net len low top ≡ 0

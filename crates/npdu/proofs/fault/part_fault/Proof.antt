@@ -1,6 +1,6 @@
-use Rattle.npdu.specs.Fault.{partFault, partRules}
-use Rattle.octets.specs.Rules.{tests, flags}
 use borrow.Author.Needs.{needs}
+use Rattle.octets.specs.Rules.{tests, flags}
+use Rattle.npdu.specs.Fault.{partFault, partRules}
 use Rattle.npdu.proofs.fault.part_fault.Statement.{statement}
 use Rattle.npdu.proofs.fault.part_fault.Tie as tie
 

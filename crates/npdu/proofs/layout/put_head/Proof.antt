@@ -1,14 +1,14 @@
-use native.Mathlib.Omega.{arith}
 use Prim.Native.Nat.{ℕ, _+_}
-use mathlib.Core.Path.{_≡_, _∙_}
+use native.Mathlib.Omega.{arith}
 use mathlib.Core.List.{List, [], _∷_, _++_}
+use mathlib.Core.Path.{_≡_}
 use lib.ListN.{length, length-set}
 use denote.Ref.{now}
-use Rattle.octets.specs.Splice.{splice-then, splice-sets}
-use Rattle.npdu.specs.Size.{partsSize, sizeOf}
-use Rattle.npdu.specs.Layout.{controlOf, partsOctets, encode, Kept}
-use Rattle.npdu.proofs.Sizes.{fault-none, parts-length, tail-length}
 use borrow.Author.Needs.{needs}
+use Rattle.octets.specs.Splice.{splice-then, splice-sets}
+use Rattle.npdu.specs.Layout.{controlOf, partsOctets, encode, Kept}
+use Rattle.npdu.specs.Size.{partsSize, sizeOf}
+use Rattle.npdu.proofs.Sizes.{fault-none, parts-length, tail-length}
 use Rattle.npdu.proofs.layout.put_head.Statement.{statement}
 use Rattle.npdu.proofs.layout.put_head.Tie as tie
 

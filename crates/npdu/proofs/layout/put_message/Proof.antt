@@ -1,17 +1,17 @@
-use native.Mathlib.Omega.{arith}
-use native.Mathlib.Numerals.{towards-suc}
 use Prim.Native.Nat.{_+_, _/_, _%_, _≤_}
-use mathlib.Core.Path.{_≡_}
+use native.Mathlib.Numerals.{towards-suc}
+use native.Mathlib.Omega.{arith}
 use mathlib.Core.Bool.{true}
 use mathlib.Core.List.{[], _∷_}
+use mathlib.Core.Path.{_≡_}
 use lib.ListN.{length, length-set}
 use denote.Ref.{now}
+use borrow.Author.Needs.{needs}
 use Rattle.octets.specs.Choice.{given-true}
 use Rattle.octets.specs.Rules.{tests, flags}
 use Rattle.octets.specs.Splice.{splice-nil, splice-set, splice-sets}
 use Rattle.npdu.specs.Layout.{messageLaid, messageOctets}
 use Rattle.npdu.specs.Size.{kindSize, messageSize}
-use borrow.Author.Needs.{needs}
 use Rattle.npdu.proofs.layout.put_message.Statement.{statement}
 use Rattle.npdu.proofs.layout.put_message.Tie as tie
 

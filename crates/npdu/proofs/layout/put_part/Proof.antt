@@ -1,18 +1,18 @@
-use native.Mathlib.Omega.{arith}
-use native.Mathlib.Numerals.{towards-suc}
 use Prim.Native.Nat.{_+_, _/_, _%_, _≤_}
-use mathlib.Core.Path.{_≡_, sym, _∙_}
+use native.Mathlib.Numerals.{towards-suc}
+use native.Mathlib.Omega.{arith}
 use mathlib.Core.Bool.{true}
 use mathlib.Core.List.{[], _∷_}
+use mathlib.Core.Path.{_≡_, sym}
 use lib.ListN.{length, take, set, length-set}
 use lib.Seq.{length-take-le}
 use denote.Ref.{now}
+use borrow.Author.Needs.{needs}
 use Rattle.octets.specs.Choice.{given-true}
 use Rattle.octets.specs.Rules.{flags}
 use Rattle.octets.specs.Splice.{splice, splice-nil, splice-then, splice-sets}
 use Rattle.npdu.specs.Layout.{partLaid, partOctets}
 use Rattle.npdu.specs.Size.{partSize}
-use borrow.Author.Needs.{needs}
 use Rattle.npdu.proofs.layout.put_part.Statement.{statement}
 use Rattle.npdu.proofs.layout.put_part.Tie as tie
 

@@ -1,11 +1,11 @@
 use native.Mathlib.Omega.{arith}
-use mathlib.Core.Path.{_≡_, sym, _∙_}
+use mathlib.Core.Path.{sym, _∙_}
 use denote.Ref.{now}
-use Rattle.octets.specs.Splice.{splice-then}
-use Rattle.npdu.specs.Size.{partsSize}
-use Rattle.npdu.specs.Layout.{partOctets, partsOctets, Kept}
-use Rattle.npdu.proofs.Sizes.{fault-none, part-length}
 use borrow.Author.Needs.{needs}
+use Rattle.octets.specs.Splice.{splice-then}
+use Rattle.npdu.specs.Layout.{partOctets, partsOctets, Kept}
+use Rattle.npdu.specs.Size.{partsSize}
+use Rattle.npdu.proofs.Sizes.{fault-none, part-length}
 use Rattle.npdu.proofs.layout.put_parts.Statement.{statement}
 use Rattle.npdu.proofs.layout.put_parts.Tie as tie
 

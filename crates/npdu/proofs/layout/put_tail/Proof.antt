@@ -1,15 +1,14 @@
 use native.Mathlib.Omega.{arith}
-use Prim.Native.Nat.{_+_, _≤_}
-use mathlib.Core.Path.{_≡_, _∙_}
 use mathlib.Core.List.{[], _∷_}
+use mathlib.Core.Path.{_≡_}
 use lib.ListN.{length-set}
 use denote.Ref.{now}
+use borrow.Author.Needs.{needs}
 use Rattle.octets.specs.Choice.{given-true, given-false}
 use Rattle.octets.specs.Splice.{splice-set, splice-then}
-use Rattle.npdu.specs.Size.{hopSize, tailSize}
 use Rattle.npdu.specs.Layout.{hopOctets, messageOctets, tailOctets}
+use Rattle.npdu.specs.Size.{hopSize, tailSize}
 use Rattle.npdu.proofs.Sizes.{message-length}
-use borrow.Author.Needs.{needs}
 use Rattle.npdu.proofs.layout.put_tail.Statement.{statement}
 use Rattle.npdu.proofs.layout.put_tail.Tie as tie
 

@@ -1,6 +1,6 @@
-use Rattle.npdu.specs.Size.{sizeOf, partsSize, tailSize}
 use native.Mathlib.Omega.{arith}
 use borrow.Author.Needs.{needs}
+use Rattle.npdu.specs.Size.{sizeOf, partsSize, tailSize}
 use Rattle.npdu.proofs.layout.size.Statement.{statement}
 use Rattle.npdu.proofs.layout.size.Tie as tie
 
