@@ -25,9 +25,9 @@ use Rattle.apdu.specs.declared.Pdu.the-variants.{Request, Unconfirmed, S
 use Rattle.apdu.specs.declared.Answer.{Answer}
 use Rattle.apdu.specs.declared.Answer.the-variants.{Good, Refused}
 use Rattle.apdu.specs.declared.kinds.Tail.the-variants.{Part}
-use Rattle.apdu.specs.Reading.{readApdu, readTail, readRequest, readUnconfirmed, readSimpleAck, readComplexAck, readSegmentAck, readError, readReject, readAbort, bit3, bit2, bit1, bit0, lonelyMor}
+use Rattle.apdu.specs.Reading.{readApdu, readTail, readRequest, readUnconfirmed, readSimpleAck, readComplexAck, readSegmentAck, readError, readReject, readAbort, bit3, bit2, bit1, bit0, morWithoutSeg}
 use Rattle.apdu.specs.Layout.{flag, firstOctet, tail, header, Window, SegmentRules, Rules, Follows}
-use Rattle.apdu.specs.FirstOctet.{parts-of, below3, below2, below1, below0, not-lonely}
+use Rattle.apdu.specs.FirstOctet.{parts-of, below3, below2, below1, below0, mor-with-seg}
 
 -- the octets of o are there, whatever follows
 there : (o t : List ℕ) (k : ℕ) → k < length o → leb (length (o ++ t)) k ≡ false
@@ -72,7 +72,7 @@ request p t r =
       there front (tail g (p .choice) ++ t) 2 (omega arith),
       f .kind,
       le-ltb 0 (x % 2) (omega (arith, below0 x (f .last))),
-      not-lonely x (λ m. f .third ∙ r .1 .more (sym (f .second) ∙ m)),
+      mor-with-seg x (λ m. f .third ∙ r .1 .more (sym (f .second) ∙ m)),
       le-ltb 15 (p .size) (omega arith),
       le-ltb 5 (p .size) (r .0),
       f .first,
@@ -100,7 +100,7 @@ complex-ack p t r =
       there front (tail g (p .choice) ++ t) 1 (omega arith),
       f .kind,
       le-ltb 0 (x % 4) (omega (arith, below1 x (f .first), below0 x (f .last))),
-      not-lonely x (λ m. f .third ∙ r .more (sym (f .second) ∙ m)),
+      mor-with-seg x (λ m. f .third ∙ r .more (sym (f .second) ∙ m)),
       tail-back s 2 g (p .choice) r (f .third) (f .second) (after front (tail g (p .choice)) t),
     )
 
@@ -118,9 +118,9 @@ segment-ack p w =
       le-ltb 127 (p .window) (w .1),
     )
 
-failed : (p : ErrorPdu) (t : List ℕ) → readApdu (header (Error p) ++ t) ≡ Good (Error p)
+error : (p : ErrorPdu) (t : List ℕ) → readApdu (header (Error p) ++ t) ≡ Good (Error p)
 unfolding readApdu readError firstOctet flag given
-failed p t = let o = header (Error p) in simp (there o t 0 (omega arith), there o t 2 (omega arith))
+error p t = let o = header (Error p) in simp (there o t 0 (omega arith), there o t 2 (omega arith))
 
 reject : (p : RejectPdu) → readApdu (header (Reject p)) ≡ Good (Reject p)
 unfolding readApdu readReject firstOctet flag given
@@ -140,6 +140,6 @@ reads-back (Unconfirmed p) t r e = unconfirmed p t
 reads-back (SimpleAck p) t r e = rw e (simple-ack p)
 reads-back (ComplexAck p) t r e = complex-ack p t r
 reads-back (SegmentAck p) t r e = rw e (segment-ack p r)
-reads-back (Error p) t r e = failed p t
+reads-back (Error p) t r e = error p t
 reads-back (Reject p) t r e = rw e (reject p)
 reads-back (Abort p) t r e = rw e (abort p)

@@ -17,7 +17,7 @@ use Rattle.apdu.specs.declared.Answer.{Answer}
 use Rattle.apdu.specs.declared.Answer.the-variants.{Good, Refused}
 use Rattle.apdu.specs.declared.kinds.Tail.{Tail}
 use Rattle.apdu.specs.declared.kinds.Tail.the-variants.{Part, Broken}
-use Rattle.apdu.specs.Reading.{readApdu, readTail, readRequest, readUnconfirmed, readSimpleAck, readComplexAck, readSegmentAck, readError, readReject, readAbort, withTail, bit3, bit2, bit1, bit0, lonelyMor}
+use Rattle.apdu.specs.Reading.{readApdu, readTail, readRequest, readUnconfirmed, readSimpleAck, readComplexAck, readSegmentAck, readError, readReject, readAbort, withTail, bit3, bit2, bit1, bit0, morWithoutSeg}
 use Rattle.apdu.specs.Fields.{paramsAt}
 use Rattle.apdu.specs.Layout.{firstOctet, tail, header, SegmentRules, Rules, Follows}
 use Rattle.apdu.specs.FirstOctet.{Parts, made-of, no-bits, clear3, clear2, clear1, clear0, needs-seg}
@@ -53,7 +53,7 @@ module _ (s : List ℕ) where
   past-tail : (at : ℕ) (test : Bool) {n : ℕ} {rest : Tail} → Number n → (test ≡ false → JudgedTail s at rest) → JudgedTail s at (pick test (Broken n) rest)
   past-tail at test h f = pick-cases (JudgedTail s at) test (λ _. broken h) f
 
-  tail-judged : (at : ℕ) → lonelyMor (oct s 0) ≡ false → JudgedTail s at (readTail s at)
+  tail-judged : (at : ℕ) → morWithoutSeg (oct s 0) ≡ false → JudgedTail s at (readTail s at)
   unfolding readTail tail given
   tail-judged at lone =
       pick-cases (JudgedTail s at) (bit3 (oct s 0))
@@ -90,7 +90,7 @@ module _ (s : List ℕ) where
     unfolding readRequest
     request k =
         past (ltb 0 (oct s 0 % 2)) (omega arith) (λ z.
-        past (lonelyMor (oct s 0)) (omega arith) (λ lone.
+        past (morWithoutSeg (oct s 0)) (omega arith) (λ lone.
         past (leb (length s) 1) (omega arith) (λ l.
         past (ltb 15 (oct s 1)) (omega arith) (λ u.
         past (ltb 5 (oct s 1)) (omega arith) (λ v.
@@ -123,7 +123,7 @@ module _ (s : List ℕ) where
     unfolding readComplexAck
     complex-ack k =
         past (ltb 0 (oct s 0 % 4)) (omega arith) (λ z.
-        past (lonelyMor (oct s 0)) (omega arith) (λ lone.
+        past (morWithoutSeg (oct s 0)) (omega arith) (λ lone.
         past (leb (length s) 1) (omega arith) (λ l.
         with-tail 2 _ (tail-judged 2 lone) (λ g choice r e3 e2 h.
         let far = leb-false (length s) 1 l in
@@ -146,9 +146,9 @@ module _ (s : List ℕ) where
         (some, made-of 4 _ _ _ _ (oct s 0) (record { kind = k; third = clear3 (oct s 0) (omega arith); second = clear2 (oct s 0) (omega arith); first = refl; last = refl }), stands s 1 3 (omega arith))
         (drop-of-length-le s (ltb-false _ _ m)))))))
 
-    failed : oct s 0 / 16 ≡ 5 → Judged s (readError s)
+    error : oct s 0 / 16 ≡ 5 → Judged s (readError s)
     unfolding readError
-    failed k =
+    error k =
         past (ltb 0 (oct s 0 % 16)) (omega arith) (λ z.
         past (leb (length s) 2) (omega arith) (λ l.
         let far = leb-false (length s) 2 l in
@@ -189,7 +189,7 @@ module _ (s : List ℕ) where
       (typed 2 (simple-ack some)
       (typed 3 (complex-ack some)
       (typed 4 (segment-ack some)
-      (typed 5 (failed some)
+      (typed 5 (error some)
       (typed 6 (reject some)
       (typed 7 (abort some)
       (bad (omega arith))))))))))
