@@ -1,14 +1,14 @@
 -- A header that keeps the rules is read as itself, whatever parameters follow.
-use Prim.Native.Nat.{ℕ, _+_, _*_, _/_, _%_, _≤_, _<_}
+use Prim.Native.Nat.{ℕ, _+_, _%_, _<_}
 use native.Mathlib.Omega.{arith}
 use mathlib.Core.Path.{_≡_, refl, sym, _∙_}
 use mathlib.Core.Bool.{Bool, true, false}
 use mathlib.Core.List.{List, [], _∷_, _++_}
 use lib.ListN.{length, length-append}
-use lib.Dec.{eqb, ltb, leb}
+use lib.Dec.{leb}
 use native.Mathlib.Nat.{zero-add}
 use borrow.Author.Tests.{le-ltb, lt-leb, ne-eqb}
-use Rattle.octets.specs.Choice.{pick, given}
+use Rattle.octets.specs.Choice.{given}
 use Rattle.octets.specs.Reading.{oct}
 use Rattle.octets.specs.Has.{Has, all-has, has-left, has-right}
 use Rattle.apdu.specs.declared.Segment.{Segment}
@@ -22,11 +22,10 @@ use Rattle.apdu.specs.declared.ErrorPdu.{ErrorPdu}
 use Rattle.apdu.specs.declared.RejectPdu.{RejectPdu}
 use Rattle.apdu.specs.declared.Pdu.{Pdu}
 use Rattle.apdu.specs.declared.Pdu.the-variants.{Request, Unconfirmed, SimpleAck, ComplexAck, SegmentAck, Error, Reject, Abort}
-use Rattle.apdu.specs.declared.Answer.{Answer}
-use Rattle.apdu.specs.declared.Answer.the-variants.{Good, Refused}
+use Rattle.apdu.specs.declared.Answer.the-variants.{Good}
 use Rattle.apdu.specs.declared.kinds.Tail.the-variants.{Part}
-use Rattle.apdu.specs.Reading.{readApdu, readTail, readRequest, readUnconfirmed, readSimpleAck, readComplexAck, readSegmentAck, readError, readReject, readAbort, bit3, bit2, bit1, bit0, morWithoutSeg}
-use Rattle.apdu.specs.Layout.{flag, firstOctet, tail, header, Window, SegmentRules, Rules, Follows}
+use Rattle.apdu.specs.Reading.{readApdu, readTail, readRequest, readUnconfirmed, readSimpleAck, readComplexAck, readSegmentAck, readError, readReject, readAbort, bit3, bit2}
+use Rattle.apdu.specs.Layout.{flag, firstOctet, tail, header, SegmentRules, Rules, Follows}
 use Rattle.apdu.specs.FirstOctet.{parts-of, below3, below2, below1, below0, mor-with-seg}
 
 -- the octets of o are there, whatever follows

@@ -12,7 +12,6 @@ use Rattle.octets.specs.Has.{Has, has-cut, has-bound}
 use Rattle.octets.specs.Exact.{Exactly}
 use Rattle.apdu.specs.declared.Pdu.{Pdu}
 use Rattle.apdu.specs.declared.Pdu.the-variants.{Request, Unconfirmed, SimpleAck, ComplexAck, SegmentAck, Error, Reject, Abort}
-use Rattle.apdu.specs.declared.Answer.{Answer}
 use Rattle.apdu.specs.declared.Answer.the-variants.{Good, Refused}
 use Rattle.apdu.specs.Reading.{readApdu}
 use Rattle.apdu.specs.Fields.{kindOf, paramsAt, tailEnd}
