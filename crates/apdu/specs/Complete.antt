@@ -25,7 +25,7 @@ use Rattle.apdu.specs.declared.Pdu.the-variants.{Request, Unconfirmed, S
 use Rattle.apdu.specs.declared.Answer.the-variants.{Good}
 use Rattle.apdu.specs.declared.kinds.Tail.the-variants.{Part}
 use Rattle.apdu.specs.Reading.{readApdu, readTail, readRequest, readUnconfirmed, readSimpleAck, readComplexAck, readSegmentAck, readError, readReject, readAbort, bit3, bit2}
-use Rattle.apdu.specs.Layout.{flag, firstOctet, tail, header, SegmentRules, Rules, Follows}
+use Rattle.apdu.specs.Layout.{segment, flag, firstOctet, tail, header, SegmentRules, Rules, Follows}
 use Rattle.apdu.specs.FirstOctet.{parts-of, below3, below2, below1, below0, mor-with-seg}
 
 -- the octets of o are there, whatever follows
@@ -39,9 +39,6 @@ after a b t =
     let h : Has s (0 + length a) (b ++ t) = has-right s 0 a (b ++ t) (all-has s) in
     let k : Has s (length a) (b ++ t) = rw zero-add at h in
     has-left s (length a) b t (rw length-append (omega arith)) k
-
-abbrev segment : Bool → Bool → ℕ → ℕ → Segment
-segment seg mor number window = record { seg = seg; mor = mor; number = number; window = window }
 
 tail-at : (s : List ℕ) (at : ℕ) (seg mor : Bool) (number window choice : ℕ) → SegmentRules (segment seg mor number window) → bit3 (oct s 0) ≡ seg → bit2 (oct s 0) ≡ mor
     → Has s at (tail (segment seg mor number window) choice) → readTail s at ≡ Part (segment seg mor number window) choice

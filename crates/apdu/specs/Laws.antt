@@ -15,7 +15,7 @@ use Rattle.apdu.specs.declared.Pdu.the-variants.{Request, Unconfirmed, S
 use Rattle.apdu.specs.declared.Answer.the-variants.{Good, Refused}
 use Rattle.apdu.specs.Reading.{readApdu}
 use Rattle.apdu.specs.Fields.{kindOf, paramsAt, tailEnd}
-use Rattle.apdu.specs.Layout.{firstOctet, tail, header, Rules, Follows, Apdu, encode, Valid}
+use Rattle.apdu.specs.Layout.{segment, firstOctet, tail, header, Rules, Follows, Apdu, encode, Valid}
 use Rattle.apdu.specs.Writing.{faultOf, shown}
 use Rattle.apdu.specs.Shown.{fault-rules, rules-fault, shown-same, shown-header, shown-follows}
 use Rattle.apdu.specs.FirstOctet.{parts-of}
@@ -27,7 +27,7 @@ abbrev pub Reads : List ℕ → Apdu → Type 0
 Reads s a = (readApdu s ≡ Good (a .pdu)) × (drop (paramsAt (a .pdu)) s ≡ a .parameters)
 
 -- the place of the parameters is the header's length
-tail-length : (at : ℕ) (seg mor : Bool) (number window choice : ℕ) → at + length (tail (record { seg = seg; mor = mor; number = number; window = window }) choice) ≡ tailEnd at seg
+tail-length : (at : ℕ) (seg mor : Bool) (number window choice : ℕ) → at + length (tail (segment seg mor number window) choice) ≡ tailEnd at seg
 unfolding tail tailEnd given
 tail-length at true mor number window choice = refl
 tail-length at false mor number window choice = refl
@@ -97,3 +97,7 @@ params-within s p e = let j = accepted (rw e at (judged s)) in omega (arith, hea
 -- The type that is answered is the one of the first octet.
 pub kind-read : (s : List ℕ) (p : Pdu) → readApdu s ≡ Good p → oct s 0 / 16 ≡ kindOf p
 kind-read s p e = let j = accepted (rw e at (judged s)) in header-kind s p (j .1)
+
+-- Any two answers are equal that a promise by a definition of the entry values allows: the reader's, and those of the fields.
+pub one-answer : {A : Type 0} {x r r′ : A} → r ≡ x → r′ ≡ x → r ≡ r′
+one-answer a b = a ∙ sym b
