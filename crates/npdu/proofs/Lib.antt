@@ -1,0 +1,10 @@
+pub mod Outcome
+pub mod Fill
+pub mod Sizes
+pub mod Parts
+pub mod Tails
+pub mod Control
+pub mod Exact
+pub mod Judged
+pub mod Written
+pub mod Rows

@@ -1,0 +1,5 @@
+pub mod Layout
+pub mod Fault
+pub mod Read
+pub mod Size
+pub mod Follow
