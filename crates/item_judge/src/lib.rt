@@ -1,0 +1,1 @@
+// Records of items to write: whether they are the reading of some octets, and how many.
