@@ -91,41 +91,41 @@ depth-after groups (opening n) e = omega arith
 depth-after [] (closing n) e = refl
 depth-after (m ∷ outer) (closing n) e = omega arith
 
--- what a good record is
-pub record Good (source groups : List ℕ) (r : Rec) : Type 0 where
-  pub fields : Fields r (recordOf 0 (length groups) (thingOf source r))
-  pub valid : Valid (thingOf source r)
-  pub fits : stands groups (thingOf source r) ≡ true
+-- what a good record of an item is
+pub record Good (groups : List ℕ) (r : Rec) (t : Thing) : Type 0 where
+  pub fields : Fields r (recordOf 0 (length groups) t)
+  pub valid : Valid t
+  pub fits : stands groups t ≡ true
 
-pub good-record : (source groups : List ℕ) (r : Rec) → goodRecord source groups r ≡ true → Good source groups r
+pub good-record : (source groups : List ℕ) (r : Rec) → goodRecord source groups r ≡ true → Good groups r (thingOf source r)
 unfolding goodRecord
 good-record source groups r e =
     let a = both-true (alike r (recordOf 0 (length groups) (thingOf source r))) _ e in
     let b = both-true (validThing (thingOf source r)) _ (a .1) in
     record { fields = alike-fields _ _ (a .0); valid = valid-test _ (b .0); fits = b .1 }
 
-pub record-good : (source groups : List ℕ) (r : Rec) → Good source groups r → goodRecord source groups r ≡ true
+pub record-good : (source groups : List ℕ) (r : Rec) → Good groups r (thingOf source r) → goodRecord source groups r ≡ true
 unfolding goodRecord
 record-good source groups r g =
     let t = thingOf source r in
     rw (fields-alike r (recordOf 0 (length groups) t) (g .fields), test-valid t (g .valid)) (g .fits)
 
-pub good-more : (source groups : List ℕ) (r : Rec) (rs : List Rec) → goodFrom source groups (r ∷ rs) ≡ true → Good source groups r × (goodFrom source (openAfter groups (thingOf source r)) rs ≡ true)
+pub good-more : (source groups : List ℕ) (r : Rec) (rs : List Rec) → goodFrom source groups (r ∷ rs) ≡ true → Good groups r (thingOf source r) × (goodFrom source (openAfter groups (thingOf source r)) rs ≡ true)
 unfolding goodFrom
 good-more source groups r rs e = let a = both-true (goodRecord source groups r) _ e in (good-record source groups r (a .0), a .1)
 
-pub good-len : (source groups : List ℕ) (r : Rec) → Good source groups r → r .len ≡ length (contentsOf (thingOf source r))
-good-len source groups r g = g .fields .4 ∙ record-len 0 (length groups) (thingOf source r)
+pub good-len : (groups : List ℕ) (r : Rec) (t : Thing) → Good groups r t → r .len ≡ length (contentsOf t)
+good-len groups r t g = g .fields .4 ∙ record-len 0 (length groups) t
 
-pub good-named : (source groups : List ℕ) (r : Rec) → Good source groups r → named source r ≡ contentsOf (thingOf source r)
-good-named source groups r g = named-contents source r (good-len source groups r g)
+pub good-named : (source groups : List ℕ) (r : Rec) → Good groups r (thingOf source r) → named source r ≡ contentsOf (thingOf source r)
+good-named source groups r g = named-contents source r (good-len groups r (thingOf source r) g)
 
 -- good records name contents inside the source
 pub good-inside : (source groups : List ℕ) (rs : List Rec) → goodFrom source groups rs ≡ true → AllInside source rs
 good-inside source groups [] e = tt
 good-inside source groups (r ∷ rs) e =
     let a = good-more source groups r rs e in
-    (inside-of source r (good-len source groups r (a .0) ∙ ap length (sym (good-named source groups r (a .0)))), good-inside source (openAfter groups (thingOf source r)) rs (a .1))
+    (inside-of source r (good-len groups r (thingOf source r) (a .0) ∙ ap length (sym (good-named source groups r (a .0)))), good-inside source (openAfter groups (thingOf source r)) rs (a .1))
 
 -- good records name items that keep the rules and the grammar
 pub good-valid : (source groups : List ℕ) (rs : List Rec) → goodFrom source groups rs ≡ true → AllValid (thingsOf source rs)
