@@ -17,7 +17,7 @@ use Rattle.items.specs.Reading.{deepest}
 use Rattle.items.specs.Grammar.{recordOf}
 use Rattle.item_judge.specs.Judge.{goodRecord, openAfter, stands}
 use Rattle.item_judge.specs.Meaning.{named}
-use Rattle.item_judge.specs.Kinds.{insideTest, booleanRule, applicationRule, contextRule, bracketRule, closingRule, contentsRule, kindRule, groupsAfter, without, sizeOf}
+use Rattle.item_judge.specs.Kinds.{insideTest, booleanRule, applicationRule, typeRule, contextRule, bracketRule, closingRule, contentsRule, kindRule, groupsAfter, without, sizeOf}
 use Rattle.item_judge.proofs.Good.{Good, good-record, record-good, Fields}
 
 pub same-test : (a b : Bool) → (a ≡ true → b ≡ true) → (b ≡ true → a ≡ true) → a ≡ b
@@ -61,7 +61,7 @@ module _ (source groups : List ℕ) (r : Rec) where
       good-tests (boolean (r .value)) e (record { fields = (k, n, eqb-true _ _ (x .0), refl, eqb-true _ _ (y .1)); valid = leb-true _ _ (y .0); fits = refl }))
 
   pub rule-application : thingOf source r ≡ application (r .number) (named source r) → r .kind ≡ 0 → (r .number ≡ 1 → ⊥) → goodRecord source groups r ≡ applicationRule source (length groups) r
-  unfolding applicationRule contentsRule recordOf
+  unfolding applicationRule typeRule contentsRule recordOf
   rule-application e k n =
       same-test _ _
       (λ a. let g = tests-good (application (r .number) (named source r)) e a in

@@ -1,3 +1,4 @@
+pub mod Rules
 pub mod Stack
 pub mod Good
 pub mod ByKind

@@ -36,6 +36,10 @@ insideTest size place len = pick (eqb len 0) true (pick (leb place size) (leb le
 unfoldable pub contentsRule : List ℕ → ℕ → ℕ → ℕ → Bool
 contentsRule source n place len = both (insideTest (length source) place len) (goodContents n (take len (drop place source)))
 
+-- contents of an application type: their length, and these
+unfoldable pub typeRule : List ℕ → ℕ → ℕ → ℕ → Bool
+typeRule source n place len = both (leb (least n) len) (both (leb len (most n)) (contentsRule source n place len))
+
 unfoldable pub booleanRule : ℕ → Rec → Bool
 booleanRule d r = both (eqb (r .depth) d) (both (leb (r .value) 1) (eqb (r .len) 0))
 
@@ -43,10 +47,7 @@ unfoldable pub applicationRule : List ℕ → ℕ → Rec → Bool
 applicationRule source d r =
     both (eqb (r .depth) d)
     (both (eqb (r .value) 0)
-    (both (leb (r .number) 12)
-    (both (leb (least (r .number)) (r .len))
-    (both (leb (r .len) (most (r .number)))
-    (contentsRule source (r .number) (r .place) (r .len))))))
+    (both (leb (r .number) 12) (typeRule source (r .number) (r .place) (r .len))))
 
 unfoldable pub contextRule : List ℕ → ℕ → Rec → Bool
 contextRule source d r =

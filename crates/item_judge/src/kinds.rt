@@ -1,23 +1,10 @@
 // Whether a record may stand where these groups are open, kind by kind.
 use crate::Groups;
 use crate::Record;
+use crate::contents;
 ghost use mathlib.Core.Path.{_≡_};
 ghost use Prim.Native.Nat.{_≤_};
-ghost use lib.ListN.{length};
-ghost use Rattle.item_judge.specs.Kinds.{recOf, groupsOf, insideTest, booleanRule, applicationRule, contextRule, bracketRule, closingRule, kindRule};
-
-// Whether contents lie in the source; where there are none the place is not looked at.
-fn inside(source: &[u8], place: usize, len: usize) -> bool
-    ensures { λ x. ⌜ x ≡ insideTest (length (now (source .entry))) place len ⌝ }
-{
-    if len == 0 {
-        return true;
-    }
-    if place <= source.len() {
-        return len <= source.len() - place;
-    }
-    false
-}
+ghost use Rattle.item_judge.specs.Kinds.{recOf, groupsOf, booleanRule, applicationRule, contextRule, bracketRule, closingRule, kindRule};
 
 // A boolean, with so many groups open: its value is in the record, and it has no contents.
 fn boolean(r: Record, depth: usize) -> bool
@@ -45,7 +32,7 @@ fn application(r: Record, source: &[u8], depth: usize) -> bool
     if 12 < r.number {
         return false;
     }
-    false
+    contents::of_type(source, r.number, r.place, r.len)
 }
 
 // A context item.
@@ -64,7 +51,7 @@ fn context(r: Record, source: &[u8], depth: usize) -> bool
     if 16384 < r.len {
         return false;
     }
-    inside(source, r.place, r.len)
+    contents::inside(source, r.place, r.len)
 }
 
 // An opening or a closing, with so many groups open outside it.

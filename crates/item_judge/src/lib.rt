@@ -1,4 +1,5 @@
 // Records of items to write: whether they are the reading of some octets, and how many octets these are.
+mod contents;
 mod kinds;
 mod nesting;
 mod records;

@@ -5,7 +5,7 @@ use Rattle.item_judge.proofs.kinds.context.Statement.{statement}
 use Rattle.item_judge.proofs.kinds.context.Tie as tie
 use Rattle.item_judge.proofs.kinds.context.Reads as reads
 use Rattle.item_judge.proofs.kinds.context.Lts as lts
-use Rattle.item_judge.proofs.kinds.inside.Reads as inside-reads
+use Rattle.item_judge.proofs.contents.inside.Reads as inside-reads
 
 -- src/kinds.rt:56:9
 returns : tie.Need-returns

@@ -1,10 +1,10 @@
 use Rattle.item_judge.specs.Kinds.{insideTest}
 use Rattle.octets.specs.Rules.{tests}
 use borrow.Author.Needs.{needs}
-use Rattle.item_judge.proofs.kinds.inside.Statement.{statement}
-use Rattle.item_judge.proofs.kinds.inside.Tie as tie
-use Rattle.item_judge.proofs.kinds.inside.Reads as reads
-use Rattle.item_judge.proofs.kinds.inside.Lts as lts
+use Rattle.item_judge.proofs.contents.inside.Statement.{statement}
+use Rattle.item_judge.proofs.contents.inside.Tie as tie
+use Rattle.item_judge.proofs.contents.inside.Reads as reads
+use Rattle.item_judge.proofs.contents.inside.Lts as lts
 
 -- src/kinds.rt:14:9
 returns : tie.Need-returns

@@ -1,0 +1,1 @@
+// Writing items: from records and a contents source to octets.
