@@ -17,13 +17,13 @@ use Rattle.items.specs.Reading.{deepest}
 use Rattle.items.specs.Grammar.{recordOf}
 use Rattle.item_judge.specs.Judge.{openAfter, stands}
 use Rattle.item_judge.specs.Meaning.{named}
-use Rattle.item_judge.specs.Kinds.{tagOctet, layout, sizeOf, groupsAfter, without}
+use Rattle.item_judge.specs.Kinds.{lowPart, tagOctet, layout, sizeOf, groupsAfter, without}
 use Rattle.item_judge.proofs.Good.{Good, good-named, good-len}
 use Rattle.item_judge.proofs.Octets.{most-longest}
 
 module _ (source groups : List ℕ) (r : Rec) where
   lay-as : (t : Thing) → Good groups r t → named source r ≡ contentsOf t → encode t ≡ layout source r
-  unfolding layout encode recordOf tagOctet numberOctets lengthOctets highBits lowBits
+  unfolding layout encode recordOf tagOctet lowPart numberOctets lengthOctets highBits lowBits
   lay-as (application n xs) g e =
       let small : ltb n 15 ≡ true = lt-ltb n 15 (omega (arith, g .valid .known)) in
       rw (e, g .fields .0, g .fields .1, g .fields .3, g .fields .4, small, zero-add)

@@ -82,11 +82,12 @@ without (m ∷ outer) = outer
 unfoldable pub groupsAfter : ℕ → ℕ → List ℕ → List ℕ
 groupsAfter kind number groups = pick (eqb kind 2) (number ∷ groups) (pick (eqb kind 3) (without groups) groups)
 
--- the tag octet of a good record's item: a boolean's value is in the length bits, and every other record has 0 there
+-- the low four bits of a good record's tag octet: a boolean's value is in the length bits, and every other record has 0 there
+unfoldable pub lowPart : Rec → ℕ
+lowPart r = pick (eqb (r .kind) 0) (r .value + lowBits (r .len)) (pick (eqb (r .kind) 1) (8 + lowBits (r .len)) (pick (eqb (r .kind) 2) 14 15))
+
 unfoldable pub tagOctet : Rec → ℕ
-tagOctet r =
-    highBits (r .number) * 16
-    + pick (eqb (r .kind) 0) (r .value + lowBits (r .len)) (pick (eqb (r .kind) 1) (8 + lowBits (r .len)) (pick (eqb (r .kind) 2) 14 15))
+tagOctet r = highBits (r .number) * 16 + lowPart r
 
 -- its octets, one layout for all kinds, and how many they are
 unfoldable pub layout : List ℕ → Rec → List ℕ

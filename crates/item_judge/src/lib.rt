@@ -2,7 +2,7 @@
 mod contents;
 mod kinds;
 mod nesting;
-mod records;
+pub mod records;
 
 ghost use mathlib.Core.Path.{_≡_};
 ghost use Prim.Native.Nat.{_/_, _%_, _≤_};
