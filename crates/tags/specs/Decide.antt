@@ -1,15 +1,12 @@
 -- The rules of an item as a test: it holds exactly for the items that there are.
-use Prim.Native.Nat.{ℕ, _≤_}
-use native.Mathlib.Omega.{arith}
 use mathlib.Core.Path.{_≡_, refl}
-use mathlib.Core.List.{List}
 use mathlib.Core.Bool.{Bool, true, false}
 use lib.ListN.{length}
 use lib.Dec.{leb, eqb}
-use borrow.Author.Tests.{leb-true, le-leb, eqb-true, eq-eqb, eqb-false, ne-eqb}
+use borrow.Author.Tests.{leb-true, le-leb, eqb-false, ne-eqb}
 use Rattle.octets.specs.Choice.{both, non}
 use Rattle.tags.specs.Types.{longest, least, most}
-use Rattle.tags.specs.Layout.{Thing, Valid, Application, goodContents}
+use Rattle.tags.specs.Layout.{Thing, Valid, goodContents}
 use Rattle.tags.specs.Layout.Thing.{application, boolean, context, opening, closing}
 
 unfoldable pub validThing : Thing → Bool
@@ -44,7 +41,7 @@ valid-test (application n xs) e =
       other = eqb-false n 1 (non-true (eqb n 1) (b .0));
       low = leb-true (least n) (length xs) (c .0);
       high = leb-true (length xs) (most n) (d .0);
-      rule = d .1
+      rule = d .1;
     }
 valid-test (boolean v) e = leb-true v 1 e
 valid-test (context n xs) e = let a = both-true (leb n 254) (leb (length xs) longest) e in (leb-true n 254 (a .0), leb-true (length xs) longest (a .1))
