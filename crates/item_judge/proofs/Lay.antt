@@ -19,7 +19,7 @@ use Rattle.item_judge.specs.Judge.{openAfter, stands}
 use Rattle.item_judge.specs.Meaning.{named}
 use Rattle.item_judge.specs.Kinds.{lowPart, tagOctet, layout, sizeOf, groupsAfter, without}
 use Rattle.item_judge.proofs.Good.{Good, good-named, good-len}
-use Rattle.item_judge.proofs.Octets.{most-longest}
+use Rattle.tags.proofs.Exact.{most-longest}
 
 module _ (source groups : List ℕ) (r : Rec) where
   lay-as : (t : Thing) → Good groups r t → named source r ≡ contentsOf t → encode t ≡ layout source r
@@ -29,8 +29,8 @@ module _ (source groups : List ℕ) (r : Rec) where
       rw (e, g .fields .0, g .fields .1, g .fields .3, g .fields .4, small, zero-add)
   lay-as (boolean v) g e = rw (e, g .fields .0, g .fields .1, g .fields .3, g .fields .4, add-zero)
   lay-as (context n xs) g e = rw (e, g .fields .0, g .fields .1, g .fields .4, add-assoc)
-  lay-as (opening n) g e = rw (e, g .fields .0, g .fields .1, g .fields .4, append-nil)
-  lay-as (closing n) g e = rw (e, g .fields .0, g .fields .1, g .fields .4, append-nil)
+  lay-as (opening n) g e = rw (e, g .fields .0, g .fields .1, g .fields .4, append-nil (numberOctets n))
+  lay-as (closing n) g e = rw (e, g .fields .0, g .fields .1, g .fields .4, append-nil (numberOctets n))
 
   pub lay-thing : Good groups r (thingOf source r) → encode (thingOf source r) ≡ layout source r
   lay-thing g = lay-as (thingOf source r) g (good-named source groups r g)
