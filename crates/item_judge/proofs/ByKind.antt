@@ -1,24 +1,24 @@
 -- The test of a record kind by kind is the test of a record; what a good record's item is, and how long it is.
-use Prim.Native.Nat.{ℕ, zero, suc, _+_, _-_, _*_, _≤_, _<_}
+use Prim.Native.Nat.{ℕ, suc, _-_, _≤_}
 use native.Mathlib.Omega.{arith}
-use mathlib.Core.Path.{_≡_, refl, sym, ap, subst, _∙_}
-use mathlib.Core.List.{List, [], _∷_, _++_}
+use mathlib.Core.Path.{_≡_, refl, sym, _∙_}
+use mathlib.Core.List.{List, [], _∷_}
 use mathlib.Core.Bool.{Bool, true, false}
-use lib.ListN.{length, take, drop, length-take, length-drop}
+use lib.ListN.{length, length-take, length-drop}
 use lib.Dec.{ltb, leb, eqb}
-use borrow.Author.Tests.{eqb-true, eqb-false, eq-eqb, ne-eqb, leb-true, leb-false, le-leb, ltb-true, lt-ltb}
-use Rattle.octets.specs.Choice.{pick, pick-so, both, by-test}
+use borrow.Author.Tests.{eqb-true, eqb-false, eq-eqb, leb-true, le-leb}
+use Rattle.octets.specs.Choice.{pick-so, both, by-test}
 use Rattle.tags.specs.Types.{longest, least, most}
-use Rattle.tags.specs.Layout.{Thing, Valid, encode, goodContents, numberOctets, lengthOctets, highBits, lowBits}
+use Rattle.tags.specs.Layout.{Thing}
 use Rattle.tags.specs.Layout.Thing.{application, boolean, context, opening, closing}
-use Rattle.tags.specs.Decide.{both-true, true-both}
+use Rattle.tags.specs.Decide.{both-true}
 use Rattle.items.specs.Records.{Rec, thingOf}
 use Rattle.items.specs.Reading.{deepest}
 use Rattle.items.specs.Grammar.{recordOf}
-use Rattle.item_judge.specs.Judge.{goodRecord, openAfter, stands}
+use Rattle.item_judge.specs.Judge.{goodRecord}
 use Rattle.item_judge.specs.Meaning.{named}
-use Rattle.item_judge.specs.Kinds.{insideTest, booleanRule, applicationRule, typeRule, contextRule, bracketRule, closingRule, contentsRule, kindRule, groupsAfter, without, sizeOf}
-use Rattle.item_judge.proofs.Good.{Good, good-record, record-good, Fields}
+use Rattle.item_judge.specs.Kinds.{insideTest, booleanRule, applicationRule, typeRule, contextRule, bracketRule, closingRule, contentsRule, kindRule}
+use Rattle.item_judge.proofs.Good.{Good, good-record, record-good}
 
 pub same-test : (a b : Bool) → (a ≡ true → b ≡ true) → (b ≡ true → a ≡ true) → a ≡ b
 same-test true b f g = sym (f refl)
@@ -66,8 +66,14 @@ module _ (source groups : List ℕ) (r : Rec) where
       same-test _ _
       (λ a. let g = tests-good (application (r .number) (named source r)) e a in
       let l = g .fields .4 in
-      rw (eq-eqb _ _ (g .fields .2), eq-eqb _ _ (g .fields .3), le-leb (r .number) 12 (g .valid .known), le-leb (least (r .number)) (r .len) (omega (arith, g .valid .low, l)),
-        le-leb (r .len) (most (r .number)) (omega (arith, g .valid .high, l)), len-inside source r l) (g .valid .rule))
+      rw (
+        eq-eqb _ _ (g .fields .2),
+        eq-eqb _ _ (g .fields .3),
+        le-leb (r .number) 12 (g .valid .known),
+        le-leb (least (r .number)) (r .len) (omega (arith, g .valid .low, l)),
+        le-leb (r .len) (most (r .number)) (omega (arith, g .valid .high, l)),
+        len-inside source r l,
+      ) (g .valid .rule))
       (λ b. let x1 = both-true (eqb (r .depth) (length groups)) _ b in
       let x2 = both-true (eqb (r .value) 0) _ (x1 .1) in
       let x3 = both-true (leb (r .number) 12) _ (x2 .1) in
@@ -77,8 +83,11 @@ module _ (source groups : List ℕ) (r : Rec) where
       let l = inside-len source r (x6 .0) in
       let low : least (r .number) ≤ length (named source r) = omega (arith, leb-true (least (r .number)) (r .len) (x4 .0), l) in
       let high : length (named source r) ≤ most (r .number) = omega (arith, leb-true (r .len) (most (r .number)) (x5 .0), l) in
-      good-tests (application (r .number) (named source r)) e (record { fields = (k, refl, eqb-true _ _ (x1 .0), eqb-true _ _ (x2 .0), l);
-        valid = record { known = leb-true _ _ (x3 .0); other = n; low = low; high = high; rule = x6 .1 }; fits = refl }))
+      good-tests (application (r .number) (named source r)) e (record {
+        fields = (k, refl, eqb-true _ _ (x1 .0), eqb-true _ _ (x2 .0), l);
+        valid = record { known = leb-true _ _ (x3 .0); other = n; low = low; high = high; rule = x6 .1 };
+        fits = refl;
+      }))
 
   pub rule-context : thingOf source r ≡ context (r .number) (named source r) → r .kind ≡ 1 → goodRecord source groups r ≡ contextRule source (length groups) r
   unfolding contextRule recordOf

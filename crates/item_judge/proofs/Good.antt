@@ -1,17 +1,17 @@
 -- Good records are those of items that keep the rules and the grammar, and the other way round.
-use Prim.Native.Nat.{ℕ, zero, suc, _+_, _-_, _≤_, _<_}
+use Prim.Native.Nat.{ℕ, zero, suc, _+_, _≤_}
 use native.Mathlib.Omega.{arith}
-use mathlib.Core.Path.{_≡_, refl, sym, ap, subst, _∙_}
-use mathlib.Core.Logic.{_⊎_, inl, inr}
+use mathlib.Core.Path.{_≡_, refl, sym, ap, _∙_}
+use mathlib.Core.Logic.{inl, inr}
 use mathlib.Core.List.{List, [], _∷_}
-use mathlib.Core.Bool.{Bool, true, false}
-use lib.ListN.{length, take, drop, length-take, length-drop}
-use lib.Dec.{ltb, leb, eqb}
+use mathlib.Core.Bool.{true}
+use lib.ListN.{length, length-take, length-drop}
+use lib.Dec.{eqb}
 use borrow.Author.Tests.{eqb-true, eqb-false, eq-eqb, ltb-true, lt-ltb}
-use Rattle.octets.specs.Choice.{pick, pick-case, both, by-test}
+use Rattle.octets.specs.Choice.{pick-case, by-test}
 use Rattle.tags.specs.Layout.{Thing, Valid, contentsOf, encode}
 use Rattle.tags.specs.Layout.Thing.{application, boolean, context, opening, closing}
-use Rattle.tags.specs.Decide.{validThing, both-true, true-both, valid-test, test-valid}
+use Rattle.tags.specs.Decide.{validThing, both-true, valid-test, test-valid}
 use Rattle.items.specs.Records.{Rec, thingOf, thingsOf}
 use Rattle.items.specs.Reading.{deepest}
 use Rattle.items.specs.Grammar.{Balanced, AllValid, recordOf, recordsFrom, depthAfter}
@@ -158,10 +158,17 @@ good-records source o groups at (r ∷ rs) e w =
     let k = depth-after groups t (a .0 .fits) in
     let len : s .len ≡ length (contentsOf (thingOf o s)) = rw same (record-len at d t) in
     let f = a .0 .fields in
-    let g = other-place at d t in
-    (record { kind = f .0 ∙ g .0; number = f .1 ∙ g .1; depth = f .2 ∙ g .2; value = f .3 ∙ g .3; len = f .4 ∙ g .4;
-      contents = good-named source groups r (a .0) ∙ sym (named-contents o s len ∙ ap contentsOf same) },
-    rw k (good-records source o (openAfter groups t) (at + length (encode t)) rs (a .1) (rw k at others)))
+    let g = other-place at d t in (
+      record {
+        kind = f .0 ∙ g .0;
+        number = f .1 ∙ g .1;
+        depth = f .2 ∙ g .2;
+        value = f .3 ∙ g .3;
+        len = f .4 ∙ g .4;
+        contents = good-named source groups r (a .0) ∙ sym (named-contents o s len ∙ ap contentsOf same);
+      },
+      rw k (good-records source o (openAfter groups t) (at + length (encode t)) rs (a .1) (rw k at others)),
+    )
 
 -- records that name the same, all but their places, name the same items
 pub same-thing : (source o : List ℕ) (r s : Rec) → Alike source o r s → thingOf source r ≡ thingOf o s

@@ -1,23 +1,23 @@
 -- What a good record says of its item: the layout, which is one for all kinds, its length, and the groups that are open after it.
-use Prim.Native.Nat.{ℕ, zero, suc, _+_, _-_, _*_, _≤_, _<_}
+use Prim.Native.Nat.{ℕ, _≤_, _<_}
 use native.Mathlib.Omega.{arith}
 use native.Mathlib.Nat.{zero-add, add-zero, add-assoc}
-use mathlib.Core.Path.{_≡_, refl, sym, ap, _∙_}
-use mathlib.Core.List.{List, [], _∷_, _++_, append-nil}
-use mathlib.Core.Bool.{Bool, true, false}
+use mathlib.Core.Path.{_≡_, sym, ap, _∙_}
+use mathlib.Core.List.{List, [], _∷_, append-nil}
+use mathlib.Core.Bool.{true}
 use lib.ListN.{length, take, drop, length-append}
-use lib.Dec.{ltb, leb, eqb}
+use lib.Dec.{ltb}
 use borrow.Author.Tests.{lt-ltb, ltb-true}
-use Rattle.octets.specs.Choice.{pick}
 use Rattle.tags.specs.Types.{longest, most}
-use Rattle.tags.specs.Layout.{Thing, Valid, encode, contentsOf, numberOctets, lengthOctets, highBits, lowBits}
+use Rattle.tags.specs.Layout.{Thing, encode, contentsOf, numberOctets, lengthOctets, highBits, lowBits}
 use Rattle.tags.specs.Layout.Thing.{application, boolean, context, opening, closing}
 use Rattle.items.specs.Records.{Rec, thingOf}
 use Rattle.items.specs.Reading.{deepest}
 use Rattle.items.specs.Grammar.{recordOf}
-use Rattle.item_judge.specs.Judge.{openAfter, stands}
+use Rattle.item_judge.specs.Judge.{openAfter}
 use Rattle.item_judge.specs.Meaning.{named}
-use Rattle.item_judge.specs.Kinds.{lowPart, tagOctet, layout, sizeOf, groupsAfter, without}
+use Rattle.item_judge.specs.Kinds.{groupsAfter}
+use Rattle.item_judge.specs.OneLayout.{lowPart, tagOctet, layout, sizeOf}
 use Rattle.item_judge.proofs.Good.{Good, good-named, good-len}
 use Rattle.tags.proofs.Exact.{most-longest}
 

@@ -1,10 +1,10 @@
 -- The contents rules by the length and the first octets.
-use Prim.Native.Nat.{ℕ, zero, suc, _+_, _-_, _≤_, _<_}
+use Prim.Native.Nat.{ℕ}
 use native.Mathlib.Omega.{arith}
-use mathlib.Core.Path.{_≡_, refl, sym, ap, _∙_}
+use mathlib.Core.Path.{_≡_, refl}
 use mathlib.Core.List.{List, [], _∷_}
 use mathlib.Core.Bool.{Bool, true, false}
-use lib.ListN.{length, getD}
+use lib.ListN.{length}
 use lib.Dec.{ltb, leb, eqb}
 use borrow.Author.Tests.{le-ltb, eqb-true}
 use Rattle.octets.specs.Choice.{pick, both, non, by-test}
@@ -36,6 +36,7 @@ signed-tests (x ∷ y ∷ xs) = rw (more xs x y .0, more xs x y .1)
     go : (b : Bool) → both (non b) true ≡ pick b false true
     go true = refl
     go false = refl
+
     go2 : (a b : Bool) → non (both a b) ≡ pick a (pick b false true) true
     go2 true true = refl
     go2 true false = refl

@@ -1,21 +1,19 @@
 -- 62 is what the page says: no octets read as these records with these contents.
-use Prim.Native.Nat.{ℕ, _+_, _/_, _%_, _≤_, _<_}
+use Prim.Native.Nat.{ℕ, _%_}
 use native.Mathlib.Omega.{arith}
-use mathlib.Core.Path.{_≡_, refl, sym, ap, subst, _∙_}
+use mathlib.Core.Path.{_≡_, refl, sym, ap, _∙_}
 use mathlib.Core.Logic.{_⊎_, inl, inr, ⊎-elim}
-use mathlib.Core.List.{List, [], _∷_}
-use mathlib.Core.Bool.{Bool, true, false}
+use mathlib.Core.List.{List, []}
+use mathlib.Core.Bool.{true}
 use lib.ListN.{length}
-use lib.Dec.{ltb, leb, eqb}
-use borrow.Author.Tests.{eqb-true, eqb-false, eq-eqb, ne-eqb, leb-true, le-leb}
+use lib.Dec.{leb, eqb}
+use borrow.Author.Tests.{eqb-true, eq-eqb, leb-true, le-leb}
 use Rattle.octets.specs.Choice.{pick, pick-so, pick-case}
 use Rattle.octets.specs.Reading.{Octets}
-use Rattle.tags.specs.Types.{longest}
-use Rattle.tags.specs.Layout.{Thing}
-use Rattle.tags.specs.Decide.{both-true, true-both}
-use Rattle.items.specs.Records.{Rec, recordsAt, thingsOf}
-use Rattle.items.specs.Reading.{Out, itemsOf, mostItems}
-use Rattle.items.specs.Reading.Out.{good, bad}
+use Rattle.tags.specs.Decide.{both-true}
+use Rattle.items.specs.Records.{Rec, thingsOf}
+use Rattle.items.specs.Reading.{mostItems}
+use Rattle.items.specs.Reading.Out.{good}
 use Rattle.items.specs.Grammar.{Grammar, encodeAll, recordsFrom}
 use Rattle.items.proofs.Exact.{written, reads, records-named}
 use Rattle.item_judge.specs.Judge.{recordsIn, goodFrom, goodRecords, writeFault}
@@ -32,7 +30,7 @@ good-grammar source rs e =
     record {
       valid = good-valid source [] rs (b .0);
       balanced = good-balanced mostItems source [] rs (leb-true _ _ (a .0)) (b .0);
-      short = leb-true _ _ (b .1)
+      short = leb-true _ _ (b .1);
     }
 
 -- "what was written reads back as the same items"
@@ -46,7 +44,7 @@ good-reading source os rs e =
       octets = octets-all source os rs (g .valid);
       records = recordsFrom 0 0 (thingsOf source rs);
       accepted = reads (thingsOf source rs) g;
-      same = good-records source (encodeAll (thingsOf source rs)) [] 0 rs (b .0) (records-named (thingsOf source rs) g)
+      same = good-records source (encodeAll (thingsOf source rs)) [] 0 rs (b .0) (records-named (thingsOf source rs) g);
     }
 
 -- octets that read as the records are the layout of the items that these name, and the records are good
@@ -58,6 +56,10 @@ reading-good source rs o r =
     let named : thingsOf source rs ≡ w .things = same-things source o rs (r .records) (r .same) ∙ w .named in
     let h = grammar-good mostItems source o [] 0 rs (w .things) (rw (w .records) at (r .same)) named (g .valid) (g .balanced) in
     (rw (le-leb (length rs) mostItems (h .1), h .0, named) (le-leb _ _ (g .short)), w .octets ∙ ap encodeAll (sym named))
+
+-- so there are no two such runs of octets
+pub one-reading : (source : List ℕ) (rs : List Rec) (o p : List ℕ) → ReadingOf source rs o → ReadingOf source rs p → o ≡ p
+one-reading source rs o p r q = reading-good source rs o r .1 ∙ sym (reading-good source rs p q .1)
 
 -- what writing takes is what the page says
 pub takes-writable : (area source : List ℕ) → Octets source → writeFault area source ≡ 0 → Writable area source
@@ -71,7 +73,7 @@ takes-writable area source os e =
       whole = eqb-true _ _ (a .0);
       inside = good-inside source [] rs (both-true (goodFrom source [] rs) _ (c .1) .0);
       result = encodeAll (thingsOf source rs);
-      reading = good-reading source os rs (b .0)
+      reading = good-reading source os rs (b .0);
     }
 
 pub writable-takes : (area source : List ℕ) → Writable area source → writeFault area source ≡ 0
@@ -86,6 +88,7 @@ fault-either area source =
     (pick-case (λ (f : ℕ). (f ≡ 0) ⊎ (f ≡ 62)) (goodRecords source (recordsIn area)) (inl refl) (inr refl)) (inr refl)
 
 pub sixty-two : (area source : List ℕ) → Octets source → (writeFault area source ≡ 62 → Writable area source → ⊥) × ((Writable area source → ⊥) → writeFault area source ≡ 62)
-sixty-two area source os =
-    ((λ e w. omega (arith, e, writable-takes area source w)),
-    (λ h. ⊎-elim (λ z. elim (h (takes-writable area source os z)) [ ]) (λ z. z) (fault-either area source)))
+sixty-two area source os = (
+  (λ e w. omega (arith, e, writable-takes area source w)),
+  (λ h. ⊎-elim (λ z. elim (h (takes-writable area source os z)) [ ]) (λ z. z) (fault-either area source)),
+)

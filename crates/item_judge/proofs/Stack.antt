@@ -2,13 +2,13 @@
 use Prim.Native.Nat.{ℕ, zero, suc, _+_, _-_, _≤_, _<_}
 use native.Mathlib.Omega.{arith}
 use native.Mathlib.Numerals.{add-one}
-use mathlib.Core.Path.{_≡_, refl, sym, ap, _∙_}
-use mathlib.Core.List.{List, [], _∷_}
-use mathlib.Core.Bool.{Bool, true, false}
+use mathlib.Core.Path.{_≡_, refl, ap}
+use mathlib.Core.List.{List, _∷_}
+use mathlib.Core.Bool.{false}
 use lib.ListN.{length, getD, set}
 use lib.Seq.{getD-set-same, getD-set-other}
 use lib.Dec.{ltb, eqb}
-use Rattle.octets.specs.Choice.{pick, pick-cases, both}
+use Rattle.octets.specs.Choice.{pick-cases, both}
 use Rattle.tags.specs.Layout.{numberOctets, lengthOctets}
 use Rattle.items.specs.Records.{Rec}
 use Rattle.item_judge.specs.Kinds.{stack, without, closingRule, bracketRule}

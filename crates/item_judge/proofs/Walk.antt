@@ -1,24 +1,23 @@
 -- Judging record after record: what is left to judge decides the whole.
-use Prim.Native.Nat.{ℕ, zero, suc, _+_, _-_, _*_, _/_, _%_, _≤_, _<_}
+use Prim.Native.Nat.{ℕ, zero, suc, _+_, _-_, _/_, _%_, _≤_, _<_}
 use native.Mathlib.Omega.{arith}
 use native.Mathlib.Nat.{zero-add, add-zero, add-assoc}
 use mathlib.Core.Path.{_≡_, refl, sym, ap, _∙_}
-use mathlib.Core.List.{List, [], _∷_, _++_}
+use mathlib.Core.List.{List, [], _∷_}
 use mathlib.Core.Bool.{Bool, true, false}
 use lib.ListN.{length, length-append}
-use lib.Dec.{ltb, leb, eqb}
+use lib.Dec.{leb, eqb}
 use borrow.Author.Tests.{eq-eqb, ne-eqb, le-leb, lt-leb}
 use Rattle.octets.specs.Choice.{pick, pick-case, both}
 use Rattle.tags.specs.Types.{longest}
-use Rattle.tags.specs.Layout.{encode}
 use Rattle.items.specs.Records.{Rec, recordAt, recordsAt, thingOf, thingsOf}
 use Rattle.items.specs.Reading.{mostItems, deepest}
 use Rattle.items.specs.Grammar.{encodeAll}
-use Rattle.item_judge.specs.Judge.{recordsIn, goodRecord, goodFrom, goodRecords, writeFault, openAfter}
-use Rattle.item_judge.specs.Kinds.{kindRule, groupsAfter, sizeOf, judged}
-use Rattle.item_judge.specs.declared.Judged.{Judged}
+use Rattle.item_judge.specs.Judge.{recordsIn, goodRecord, goodFrom, goodRecords, writeFault, judged}
+use Rattle.item_judge.specs.Kinds.{kindRule, groupsAfter}
+use Rattle.item_judge.specs.OneLayout.{sizeOf}
 use Rattle.item_judge.specs.declared.Judged.the-variants.{Takes, Refused}
-use Rattle.item_judge.proofs.Good.{Good, good-record}
+use Rattle.item_judge.proofs.Good.{good-record}
 use Rattle.item_judge.proofs.ByKind.{kind-rule}
 use Rattle.item_judge.proofs.Lay.{lay-size, good-short, good-room, good-some, good-after}
 
@@ -73,7 +72,7 @@ module _ (area source groups : List ℕ) (size p n : ℕ) where
       let g = good-record source groups (recordAt area p) good in
       rw e (record {
         rest = j .rest ∙ rw (records-next area p n h, good, good-after groups (recordAt area p) (thingOf source (recordAt area p)) g);
-        octets = j .octets ∙ rw (records-next area p n h) (simp (length-append, lay-size source groups (recordAt area p) g, add-assoc))
+        octets = j .octets ∙ rw (records-next area p n h) (simp (length-append, lay-size source groups (recordAt area p) g, add-assoc));
       })
 
   pub judging-bad : (k : Rec) → k ≡ recordAt area p → 0 < n → kindRule source groups k ≡ false → Judging area source groups size p n → Refused 62 ≡ judged area source

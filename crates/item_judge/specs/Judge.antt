@@ -1,5 +1,5 @@
 -- What writing items refuses: a test over the records from the first to the last, with the numbers of the open groups, innermost first.
-use Prim.Native.Nat.{ℕ, _+_, _/_, _%_}
+use Prim.Native.Nat.{ℕ, _/_, _%_}
 use mathlib.Core.List.{List, [], _∷_}
 use mathlib.Core.Bool.{Bool, true, false}
 use lib.ListN.{length}
@@ -12,6 +12,8 @@ use Rattle.tags.specs.Decide.{validThing}
 use Rattle.items.specs.Records.{Rec, recordsAt, thingOf, thingsOf}
 use Rattle.items.specs.Reading.{mostItems, deepest}
 use Rattle.items.specs.Grammar.{encodeAll, recordOf}
+use Rattle.item_judge.specs.declared.Judged.{Judged}
+use Rattle.item_judge.specs.declared.Judged.the-variants.{Takes, Refused}
 
 -- "one 12-octet record an item": the records of a record area
 abbrev pub recordsIn : List ℕ → List Rec
@@ -62,6 +64,10 @@ goodRecords source rs =
     (both (goodFrom source [] rs) (leb (length (encodeAll (thingsOf source rs))) longest))
 
 -- 62: "a record area not a multiple of 12 octets, records naming contents outside the source, or records which, with those contents, are the
--- reading of no octets (places not compared)". That this test says so is the theorem of Sixty.
+-- reading of no octets (places not compared)". That the test says so is proved of Meaning's words.
 unfoldable pub writeFault : List ℕ → List ℕ → ℕ
 writeFault area source = pick (eqb (length area % 12) 0) (pick (goodRecords source (recordsIn area)) 0 62) 62
+
+-- what judging answers: the octets that the items take, or the refusal
+unfoldable pub judged : List ℕ → List ℕ → Judged
+judged area source = pick (eqb (writeFault area source) 0) (Takes (length (encodeAll (thingsOf source (recordsIn area))))) (Refused (writeFault area source))

@@ -1,20 +1,16 @@
--- The same test of a record kind by kind, in the order in which it is made; how many octets a record's item takes.
-use Prim.Native.Nat.{ℕ, zero, suc, _+_, _-_, _*_}
-use mathlib.Core.List.{List, [], _∷_, _++_}
+-- The same test of a record kind by kind, in the order in which it is made, on the values that the code has.
+use Prim.Native.Nat.{ℕ, zero, suc, _-_}
+use mathlib.Core.List.{List, [], _∷_}
 use mathlib.Core.Bool.{Bool, true, false}
 use lib.ListN.{length, getD, take, drop}
 use lib.Dec.{ltb, leb, eqb}
 use Rattle.octets.specs.Choice.{pick, both}
 use Rattle.tags.specs.Types.{longest, least, most}
-use Rattle.tags.specs.Layout.{numberOctets, lengthOctets, highBits, lowBits, goodContents}
-use Rattle.items.specs.Records.{Rec, rec, thingsOf}
+use Rattle.tags.specs.Layout.{goodContents}
+use Rattle.items.specs.Records.{Rec, rec}
 use Rattle.items.specs.Reading.{deepest}
-use Rattle.items.specs.Grammar.{encodeAll}
-use Rattle.item_judge.specs.Judge.{recordsIn, writeFault}
 use Rattle.item_judge.specs.declared.Record.{Record}
 use Rattle.item_judge.specs.declared.Groups.{Groups}
-use Rattle.item_judge.specs.declared.Judged.{Judged}
-use Rattle.item_judge.specs.declared.Judged.the-variants.{Takes, Refused}
 
 -- the record that a value of the code is
 abbrev pub recOf : Record → Rec
@@ -81,21 +77,3 @@ without (m ∷ outer) = outer
 
 unfoldable pub groupsAfter : ℕ → ℕ → List ℕ → List ℕ
 groupsAfter kind number groups = pick (eqb kind 2) (number ∷ groups) (pick (eqb kind 3) (without groups) groups)
-
--- the low four bits of a good record's tag octet: a boolean's value is in the length bits, and every other record has 0 there
-unfoldable pub lowPart : Rec → ℕ
-lowPart r = pick (eqb (r .kind) 0) (r .value + lowBits (r .len)) (pick (eqb (r .kind) 1) (8 + lowBits (r .len)) (pick (eqb (r .kind) 2) 14 15))
-
-unfoldable pub tagOctet : Rec → ℕ
-tagOctet r = highBits (r .number) * 16 + lowPart r
-
--- its octets, one layout for all kinds, and how many they are
-unfoldable pub layout : List ℕ → Rec → List ℕ
-layout source r = tagOctet r ∷ (numberOctets (r .number) ++ (lengthOctets (r .len) ++ take (r .len) (drop (r .place) source)))
-
-unfoldable pub sizeOf : ℕ → ℕ → ℕ
-sizeOf number len = 1 + length (numberOctets number) + length (lengthOctets len) + len
-
--- what judging answers: the octets that the items take, or the refusal
-unfoldable pub judged : List ℕ → List ℕ → Judged
-judged area source = pick (eqb (writeFault area source) 0) (Takes (length (encodeAll (thingsOf source (recordsIn area))))) (Refused (writeFault area source))

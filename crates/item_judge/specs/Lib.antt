@@ -1,3 +1,4 @@
 pub mod Judge
 pub mod Meaning
 pub mod Kinds
+pub mod OneLayout

@@ -6,7 +6,7 @@ use mathlib.Core.List.{List, [], _∷_}
 use lib.ListN.{length, take, drop}
 use Rattle.octets.specs.Reading.{Octets}
 use Rattle.items.specs.Records.{Rec}
-use Rattle.items.specs.Reading.{Out, itemsOf}
+use Rattle.items.specs.Reading.{itemsOf}
 use Rattle.items.specs.Reading.Out.{good}
 use Rattle.item_judge.specs.Judge.{recordsIn}
 

@@ -7,7 +7,7 @@ pub mod records;
 ghost use mathlib.Core.Path.{_≡_};
 ghost use Prim.Native.Nat.{_/_, _%_, _≤_};
 ghost use lib.ListN.{length};
-ghost use Rattle.item_judge.specs.Kinds.{judged};
+ghost use Rattle.item_judge.specs.Judge.{judged};
 
 // What judging answers: the octets that the items take, or the number of the refusal.
 pub enum Judged {

@@ -11,10 +11,7 @@ pub fn none() -> Groups
     ensures { λ r. ⌜ (groupsOf r ≡ []) × (r .depth ≡ 0) ⌝ }
 {
     let numbers = [0u8; 16];
-    Groups {
-        numbers,
-        depth: 0,
-    }
+    Groups { numbers, depth: 0 }
 }
 
 // A group of number n is opened.

@@ -5,7 +5,8 @@ ghost use Prim.Native.Nat.{_+_, _≤_};
 ghost use lib.ListN.{length};
 ghost use Rattle.tags.specs.Layout.{numberOctets, lengthOctets};
 ghost use Rattle.items.specs.Records.{recordAt};
-ghost use Rattle.item_judge.specs.Kinds.{recOf, sizeOf};
+ghost use Rattle.item_judge.specs.Kinds.{recOf};
+ghost use Rattle.item_judge.specs.OneLayout.{sizeOf};
 
 // The record at a place.
 pub fn record_at(area: &[u8], p: usize) -> Record

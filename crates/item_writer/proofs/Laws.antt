@@ -1,26 +1,24 @@
 -- One item after another: what is laid, and what is left to lay.
-use Prim.Native.Nat.{ℕ, zero, suc, _+_, _-_, _*_, _/_, _%_, _≤_, _<_}
+use Prim.Native.Nat.{ℕ, suc, _+_, _-_, _/_, _%_, _≤_, _<_}
 use native.Mathlib.Omega.{arith}
-use native.Mathlib.Nat.{add-zero, add-assoc}
-use mathlib.Core.Path.{_≡_, refl, sym, ap, subst, _∙_}
+use mathlib.Core.Path.{_≡_, refl, sym, ap, _∙_}
 use mathlib.Core.List.{List, [], _∷_, _++_, append-assoc}
-use mathlib.Core.Bool.{Bool, true, false}
-use lib.ListN.{length, take, drop, length-append}
-use lib.Dec.{ltb, leb, eqb}
+use mathlib.Core.Bool.{true, false}
+use lib.ListN.{length, length-append}
+use lib.Dec.{leb, eqb}
 use borrow.Author.Tests.{eqb-true, eqb-false, ne-eqb, leb-true}
 use Rattle.octets.specs.Choice.{pick, pick-so, pick-not}
 use Rattle.octets.specs.Splice.{splice, splice-nil, splice-length, splice-join, splice-then}
-use Rattle.tags.specs.Types.{longest}
-use Rattle.tags.specs.Layout.{Thing, encode, numberOctets, lengthOctets}
+use Rattle.tags.specs.Layout.{Thing, numberOctets, lengthOctets}
 use Rattle.tags.specs.Layout.Thing.{application, boolean, context, opening, closing}
 use Rattle.tags.specs.Decide.{both-true}
 use Rattle.items.specs.Records.{Rec, recordAt, recordsAt, thingOf, thingsOf}
 use Rattle.items.specs.Reading.{mostItems}
 use Rattle.items.specs.Grammar.{encodeAll, recordOf}
-use Rattle.item_judge.specs.Judge.{recordsIn, goodFrom, goodRecords, writeFault, openAfter}
+use Rattle.item_judge.specs.Judge.{recordsIn, goodFrom, goodRecords, writeFault, openAfter, judged}
 use Rattle.item_judge.specs.Meaning.{named}
-use Rattle.item_judge.specs.Kinds.{insideTest, layout, tagOctet, judged}
-use Rattle.item_judge.specs.declared.Judged.{Judged}
+use Rattle.item_judge.specs.Kinds.{insideTest}
+use Rattle.item_judge.specs.OneLayout.{layout}
 use Rattle.item_judge.specs.declared.Judged.the-variants.{Takes, Refused}
 use Rattle.item_judge.proofs.Good.{Good, good-more, good-len, good-named}
 use Rattle.item_judge.proofs.ByKind.{inside-len, len-inside}
@@ -102,7 +100,7 @@ module _ (area source out₀ out : List ℕ) (at p n : ℕ) (k : Rec) (e : k ≡
         value = good-value (l .groups) r (thingOf source r) g;
         short = good-short source (l .groups) r (thingOf source r) g;
         inside = len-inside source r (good-len (l .groups) r (thingOf source r) g ∙ ap length (sym (good-named source (l .groups) r g)));
-        room = s
+        room = s;
       })
 
   pub laying-next : (at₁ : ℕ) (out₁ : List ℕ) → Put out at (layout source k) at₁ out₁ → Laying area source out₀ out₁ at₁ (p + 12) (n - 1)
@@ -117,7 +115,7 @@ module _ (area source out₀ out : List ℕ) (at p n : ℕ) (k : Rec) (e : k ≡
         good = next-good .1;
         room = omega (arith, v .after);
         same = len ∙ l .same;
-        result = rw (v .area, v .after, splice-join out at (layout source r) rest sum) (rw next-octets at (l .result))
+        result = rw (v .area, v .after, splice-join out at (layout source r) rest sum) (rw next-octets at (l .result));
       }
 
 pub laying-end : (area source out₀ out : List ℕ) (at p n : ℕ) → n ≡ 0 → Laying area source out₀ out at p n → out ≡ splice out₀ 0 (encodeAll (thingsOf source (recordsIn area)))

@@ -1,22 +1,21 @@
 -- "what was written reads back as the same items", and what was listed is written back to the same octets.
-use Prim.Native.Nat.{ℕ, zero, suc, _+_, _-_, _*_, _/_, _%_, _≤_, _<_}
+use Prim.Native.Nat.{ℕ, zero, suc, _+_, _*_, _/_, _%_, _≤_}
 use native.Mathlib.Omega.{arith}
-use mathlib.Core.Path.{_≡_, refl, sym, ap, subst, _∙_}
+use mathlib.Core.Path.{_≡_, refl, sym, ap, _∙_}
 use mathlib.Core.List.{List, [], _∷_, _++_}
-use mathlib.Core.Bool.{Bool, true, false}
-use lib.ListN.{length, getD, take, drop}
+use mathlib.Core.Bool.{true}
+use lib.ListN.{length, take, drop}
 use lib.Seq.{take-append-seam, length-take-le, getD-take}
 use lib.Dec.{ltb, eqb}
 use borrow.Author.Tests.{ltb-false, eqb-true, eq-eqb}
 use Rattle.octets.specs.Choice.{pick, pick-so, pick-not}
-use Rattle.octets.specs.Reading.{Octets, oct}
+use Rattle.octets.specs.Reading.{Octets}
 use Rattle.octets.specs.Splice.{splice, splice-length}
 use Rattle.octets.specs.Numbers.{valueAt, value-shift}
 use Rattle.octets.specs.Laid.{Laid, answerOf, areaOf}
-use Rattle.octets.specs.declared.Written.{Written}
 use Rattle.octets.specs.declared.Written.the-variants.{Wrote, Refused}
 use Rattle.items.specs.Records.{Rec, recordAt, recordsAt, recordsOctets, thingsOf}
-use Rattle.items.specs.Reading.{Out, itemsOf}
+use Rattle.items.specs.Reading.{itemsOf}
 use Rattle.items.specs.Reading.Out.{good}
 use Rattle.items.specs.Grammar.{encodeAll}
 use Rattle.items.specs.Listing.{Listed, listedOf, listing}
@@ -26,7 +25,7 @@ use Rattle.items.proofs.RecordOctets.{records-length}
 use Rattle.items.proofs.Exact.{records-are}
 use Rattle.items.proofs.Back.{listed-back}
 use Rattle.item_judge.specs.Judge.{recordsIn, goodRecords, writeFault}
-use Rattle.item_judge.specs.Meaning.{named, Alike, AllAlike, ReadingOf, Writable}
+use Rattle.item_judge.specs.Meaning.{AllAlike, ReadingOf}
 use Rattle.item_judge.proofs.Sixty.{takes-writable, reading-good}
 use Rattle.item_judge.proofs.Walk as walk
 

@@ -7,7 +7,8 @@ use lib.ListN.{length}
 use Rattle.octets.specs.Splice.{splice}
 use Rattle.tags.specs.Types.{longest}
 use Rattle.items.specs.Records.{Rec}
-use Rattle.item_judge.specs.Kinds.{insideTest, layout}
+use Rattle.item_judge.specs.Kinds.{insideTest}
+use Rattle.item_judge.specs.OneLayout.{layout}
 
 pub record Ready (source : List ℕ) (r : Rec) (at : ℕ) (out : List ℕ) : Type 0 where
   pub value : r .value ≤ 1

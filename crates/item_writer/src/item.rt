@@ -1,12 +1,14 @@
 // One item at a place: its tag octet, the rest of its number, the rest of its length, its contents.
 use item_judge::Record;
 ghost use mathlib.Core.Path.{_≡_};
+ghost use mathlib.Core.List.{[], _∷_};
 ghost use mathlib.Core.Bool.{true};
-ghost use Prim.Native.Nat.{_+_, _≤_};
+ghost use Prim.Native.Nat.{_+_, _/_, _%_, _≤_};
 ghost use lib.ListN.{length, take, drop};
 ghost use Rattle.octets.specs.Splice.{splice};
 ghost use Rattle.tags.specs.Layout.{highBits, lowBits, numberOctets, lengthOctets};
-ghost use Rattle.item_judge.specs.Kinds.{recOf, insideTest, lowPart, tagOctet, layout};
+ghost use Rattle.item_judge.specs.Kinds.{recOf, insideTest};
+ghost use Rattle.item_judge.specs.OneLayout.{lowPart, tagOctet, layout};
 ghost use Rattle.item_writer.specs.Writing.{Ready, Put};
 
 // The number in the tag octet.
@@ -66,6 +68,16 @@ fn put_number(out: &mut [u8], at: usize, n: u8) -> usize
     at + 1
 }
 
+// 254 and two octets.
+fn put_long(out: &mut [u8], at: usize, len: usize)
+    requires { ⌜ (len ≤ 16384) × (at + 3 ≤ length (now out)) ⌝ }
+    ensures { λ _. ⌜ now (out .exit) ≡ splice (now (out .entry)) at (254 ∷ len / 256 ∷ len % 256 ∷ []) ⌝ }
+{
+    octets::put(out, at, 254);
+    octets::put(out, at + 1, (len / 256) as u8);
+    octets::put(out, at + 2, (len % 256) as u8);
+}
+
 // A length that the tag octet has no room for.
 fn put_length(out: &mut [u8], at: usize, len: usize) -> usize
     requires { ⌜ (len ≤ 16384) × (at + length (lengthOctets len) ≤ length (now out)) ⌝ }
@@ -78,9 +90,7 @@ fn put_length(out: &mut [u8], at: usize, len: usize) -> usize
         octets::put(out, at, len as u8);
         return at + 1;
     }
-    octets::put(out, at, 254);
-    octets::put(out, at + 1, (len / 256) as u8);
-    octets::put(out, at + 2, (len % 256) as u8);
+    put_long(out, at, len);
     at + 3
 }
 

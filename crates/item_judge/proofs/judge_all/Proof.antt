@@ -1,23 +1,16 @@
 use native.Mathlib.Omega.{arith}
 use Prim.Native.Nat.{_+_, _*_, _≤_}
-use mathlib.Core.Path.{_≡_, refl, sym, _∙_}
-use mathlib.Core.Bool.{true, false}
+use mathlib.Core.Path.{_≡_, sym, _∙_}
+use mathlib.Core.Bool.{true}
 use lib.ListN.{length}
 use borrow.Author.Needs.{needs}
 use borrow.Author.Tests.{not-true, not-false}
-use denote.Ref.{now}
-use Rattle.item_judge.specs.Kinds.{groupsOf, recOf, kindRule, sizeOf}
+use Rattle.item_judge.specs.Kinds.{groupsOf, recOf, kindRule}
+use Rattle.item_judge.specs.OneLayout.{sizeOf}
 use Rattle.item_judge.proofs.Stack.{stack-length, number-short, length-short}
 use Rattle.item_judge.proofs.Walk.{Judging, judging-start, kind-facts, judging-next, judging-bad, judging-open, judging-long, judging-end}
 use Rattle.item_judge.proofs.judge_all.Statement.{statement}
 use Rattle.item_judge.proofs.judge_all.Tie as tie
-use Rattle.item_judge.proofs.judge_all.Reads as reads
-use Rattle.item_judge.proofs.judge_all.Lts as lts
-use Rattle.item_judge.proofs.kinds.good.Reads as good-reads
-use Rattle.item_judge.proofs.nesting.after.Reads as after-reads
-use Rattle.item_judge.proofs.nesting.none.Reads as none-reads
-use Rattle.item_judge.proofs.records.record_at.Reads as record-at-reads
-use Rattle.item_judge.proofs.records.size.Reads as size-reads
 
 abbrev Inv-loop : tie.InvT-loop
 Inv-loop records source g₀ size₀ p₀ left₀ g size p left =
@@ -73,9 +66,12 @@ unfolding sizeOf
 loop-again c =
     let r = c .before .before .before .before .record-at .result in
     let t : kindRule _ _ (recOf r) ≡ true = sym (c .before .before .before .good2 .ensures) ∙ not-false _ (c .before .before .if1 .left) in
-    let f = kind-facts _ _ (recOf r) t in
-    (omega arith, c .after .ensures .1, omega (arith, f .0, c .before .size .ensures, number-short (r .number), length-short (r .len)),
-    rw (c .after .ensures .0, c .before .size .ensures) (judging-next _ _ _ _ _ _ (recOf r) (c .before .before .before .before .record-at .ensures) (c .before .before .before .before .before .loop-test .taken) t (c .before .before .before .before .before .before .loop .inv .3)))
+    let f = kind-facts _ _ (recOf r) t in (
+      omega arith,
+      c .after .ensures .1,
+      omega (arith, f .0, c .before .size .ensures, number-short (r .number), length-short (r .len)),
+      rw (c .after .ensures .0, c .before .size .ensures) (judging-next _ _ _ _ _ _ (recOf r) (c .before .before .before .before .record-at .ensures) (c .before .before .before .before .before .loop-test .taken) t (c .before .before .before .before .before .before .loop .inv .3)),
+    )
 
 returns-2 : tie.Need-returns-2 Inv-loop μ-loop
 returns-2 c =

@@ -5,10 +5,6 @@ use Rattle.item_judge.specs.Kinds.{recOf}
 use Rattle.item_writer.proofs.Laws.{Laying, laying-start, laying-ready, laying-next, laying-end}
 use Rattle.item_writer.proofs.put_all.Statement.{statement}
 use Rattle.item_writer.proofs.put_all.Tie as tie
-use Rattle.item_writer.proofs.put_all.Reads as reads
-use Rattle.item_writer.proofs.put_all.Lts as lts
-use Rattle.item_judge.proofs.records.record_at.Reads as record-at-reads
-use Rattle.item_writer.proofs.item.put_item.Reads as put-item-reads
 
 abbrev Inv-loop : tie.InvT-loop
 Inv-loop records source out₀ at₀ p₀ left₀ out at p left = (p + 12 * left ≤ length records) × Laying records source out₀ out at p left
@@ -35,9 +31,10 @@ loop-less : tie.Need-loop-less Inv-loop μ-loop
 loop-less c = omega arith
 
 loop-again : tie.Need-loop-again Inv-loop μ-loop
-loop-again c =
-    (omega arith,
-    laying-next _ _ _ _ _ _ _ (recOf (c .before .before .before .before .record-at .result)) (c .before .before .before .before .record-at .ensures) (c .before .before .before .before .before .loop-test .taken) (c .before .before .before .before .before .before .loop .inv .1) _ _ (c .before .before .put-item .ensures))
+loop-again c = (
+  omega arith,
+  laying-next _ _ _ _ _ _ _ (recOf (c .before .before .before .before .record-at .result)) (c .before .before .before .before .record-at .ensures) (c .before .before .before .before .before .loop-test .taken) (c .before .before .before .before .before .before .loop .inv .1) _ _ (c .before .before .put-item .ensures),
+)
 
 same-length : tie.Need-same-length Inv-loop μ-loop
 same-length c = c .before .loop .inv .1 .same
