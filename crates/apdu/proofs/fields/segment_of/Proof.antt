@@ -1,0 +1,24 @@
+use borrow.Author.Needs.{needs}
+use Rattle.apdu.proofs.fields.segment_of.Statement.{statement}
+use Rattle.apdu.proofs.fields.segment_of.Tie as tie
+
+pub segment-of-spec : {M : Type 1} → statement M
+segment-of-spec =
+    tie.close
+    (tie.spec
+    (λ c. search needs)
+    (λ c. search needs)
+    (λ c. search needs)
+    (λ c. search needs)
+    (λ c. search needs)
+    (λ c. search needs)
+    (λ c. search needs)
+    (λ c. search needs)
+    (λ c. search needs)
+    (λ c. search needs)
+    (λ c. rw (c .enum-told .given .1))
+    (λ c. rw (c .enum-told2 .given .1))
+    (λ c. rw (c .enum-told3 .given .1))
+    (λ c. rw (c .enum-told4 .given .1))
+    (λ c. rw (c .enum-told5 .given .1))
+    (λ c. rw (c .enum-told6 .given .1)))

@@ -1,0 +1,9 @@
+pub mod Reading
+pub mod Fields
+pub mod Layout
+pub mod FirstOctet
+pub mod Sound
+pub mod Complete
+pub mod Writing
+pub mod Shown
+pub mod Laws

@@ -1,0 +1,14 @@
+use Rattle.tags.specs.Types.{most}
+use borrow.Author.Needs.{needs}
+use Rattle.item_judge.proofs.contents.high.Statement.{statement}
+use Rattle.item_judge.proofs.contents.high.Tie as tie
+
+pub high-spec : {M : Type 1} → statement M
+unfolding most
+high-spec =
+    tie.close
+    (tie.spec
+    (λ c κs. search needs)
+    (λ c. search needs)
+    (λ c. search needs)
+    (λ c. search (needs, c .wide .ensures)))

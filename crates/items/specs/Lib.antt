@@ -1,0 +1,6 @@
+pub mod Records
+pub mod Reading
+pub mod Grammar
+pub mod Listing
+pub mod Cycle
+pub mod Left

@@ -1,0 +1,30 @@
+-- What listing answers and leaves in the lent area: "one 12-octet record an item", 61 where it is too small.
+use Prim.Native.Nat.{ℕ}
+use mathlib.Core.List.{List}
+use mathlib.Core.Path.{_≡_, sym, _∙_}
+use lib.ListN.{length}
+use lib.Dec.{ltb}
+use Rattle.octets.specs.Choice.{pick}
+use Rattle.octets.specs.Splice.{splice}
+use Rattle.items.specs.Records.{recordsOctets}
+use Rattle.items.specs.Reading.{Out, itemsOf}
+use Rattle.items.specs.Reading.Out.{good, bad}
+use Rattle.items.specs.declared.Tally.{Tally}
+use Rattle.items.specs.declared.Tally.the-variants.{Items}
+
+unfoldable pub listedOf : ℕ → Out → Tally
+listedOf size (good rs end) = pick (ltb size (length (recordsOctets rs))) (Tally.Refused 61) (Items (length rs))
+listedOf size (bad x) = Tally.Refused x
+
+unfoldable pub listing : List ℕ → Out → List ℕ
+listing area (good rs end) = pick (ltb (length area) (length (recordsOctets rs))) area (splice area 0 (recordsOctets rs))
+listing area (bad x) = area
+
+-- listing's promise
+pub record Listed (s area : List ℕ) (r : Tally) (later : List ℕ) : Type 0 where
+  pub answer : r ≡ listedOf (length area) (itemsOf s)
+  pub after : later ≡ listing area (itemsOf s)
+
+-- any two answers that the promise allows are equal
+pub listed-one : {s area later later′ : List ℕ} {r r′ : Tally} → Listed s area r later → Listed s area r′ later′ → (r ≡ r′) × (later ≡ later′)
+listed-one a b = (a .answer ∙ sym (b .answer), a .after ∙ sym (b .after))

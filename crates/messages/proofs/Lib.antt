@@ -1,0 +1,9 @@
+pub mod Tests
+pub mod Area
+pub mod Lowest
+pub mod Step
+pub mod Rows
+pub mod History
+pub mod Sound
+pub mod Alone
+pub mod Laws

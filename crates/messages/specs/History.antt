@@ -1,0 +1,98 @@
+-- What happened, as a list, and what it says of a key. What is read off it looks at no slot.
+use mathlib.Core.Path.{_≡_}
+use mathlib.Core.Bool.{Bool, true, false}
+use mathlib.Core.List.{List, [], _∷_, _++_}
+use Prim.Native.Nat.{ℕ, zero, suc, _*_}
+use lib.Dec.{eqb}
+use lib.ListN.{length}
+use Rattle.octets.specs.Choice.{pick, both}
+use Rattle.messages.specs.Slots.{room, part, Keys, Segment, Box, slotAt}
+use Rattle.messages.specs.Rows.{Answer, rebuild, forget}
+use Rattle.messages.specs.Rows.Answer.{refused, taken, completed}
+
+-- segments and forget orders as they come
+pub data Deed (Key : Type 0) : Type 0 where
+  segment : Segment Key → Deed Key
+  forgetting : ℕ → Deed Key
+
+-- a segment with its answer, or a forget order that freed the slot of a key
+pub data Entry (Key : Type 0) : Type 0 where
+  said : Segment Key → Answer → Entry Key
+  dropped : Key → Entry Key
+
+-- the history, latest first
+abbrev pub Log : Type 0 → Type 0
+Log Key = List (Entry Key)
+
+abbrev pub accepted : Answer → Bool
+accepted (refused n) = false
+accepted (taken i n) = true
+accepted (completed i n) = true
+
+-- the answer names the slot
+abbrev pub touches : Answer → ℕ → Bool
+touches (refused n) j = false
+touches (taken i n) j = eqb i j
+touches (completed i n) j = eqb i j
+
+module _ {Key : Type 0} (K : Keys Key) where
+  -- an accepted segment of the key
+  abbrev pub of : Key → Segment Key → Answer → Bool
+  of k g w = both (accepted w) (K .same (g .key) k)
+
+  -- an accepted segment that starts its key's message anew, after the older history: "segment 0"
+  abbrev pub starting : Segment Key → Log Key → Bool
+  starting g old = eqb (g .number) 0
+
+  -- a message of the key was begun in the history
+  abbrev pub begun : Key → Log Key → Bool
+  begun k [] = false
+  begun k (said g w ∷ old) = pick (of k g w) (pick (starting g old) true (begun k old)) (begun k old)
+  begun k (dropped j ∷ old) = begun k old
+
+  -- "its key's accepted segments since its latest segment 0", in the order in which they came
+  abbrev pub since : Key → Log Key → List (Segment Key)
+  since k [] = []
+  since k (said g w ∷ old) = pick (of k g w) (pick (starting g old) (g ∷ []) (since k old ++ (g ∷ []))) (since k old)
+  since k (dropped j ∷ old) = since k old
+
+abbrev pub joined : {Key : Type 0} → List (Segment Key) → List ℕ
+joined [] = []
+joined (g ∷ gs) = g .octets ++ joined gs
+
+abbrev pub numbers : {Key : Type 0} → List (Segment Key) → List ℕ
+numbers [] = []
+numbers (g ∷ gs) = g .number ∷ numbers gs
+
+-- 0, 1, 2, .. below n
+abbrev pub below : ℕ → List ℕ
+below zero = []
+below (suc n) = below n ++ (n ∷ [])
+
+-- "Each message .. is its key's accepted segments since its latest segment 0, joined in number order": so are the n octets of slot i, and n is their number
+pub record Rebuilt {Key : Type 0} (K : Keys Key) (k : Key) (log : Log Key) (area : List ℕ) (i n : ℕ) : Type 0 where
+  pub octets : part (room * i) n area ≡ joined (since K k log)
+  pub total : n ≡ length (joined (since K k log))
+  pub order : numbers (since K k log) ≡ below (length (since K k log))
+
+-- ---- a run of segments and forget orders
+pub record Past (Key : Type 0) : Type 0 where
+  pub log : Log Key
+  pub box : Box Key
+
+abbrev pub past : {Key : Type 0} → Log Key → Box Key → Past Key
+past log b = record { log = log; box = b }
+
+module _ {Key : Type 0} (K : Keys Key) where
+  abbrev pub after : Deed Key → Past Key → Past Key
+  after (segment g) p = past (said g (rebuild K g (p .box) .answer) ∷ p .log) (rebuild K g (p .box) .box)
+  after (forgetting n) p =
+      let t = slotAt K (p .box .slots) n in
+      past (pick (t .used) (dropped (t .key) ∷ p .log) (p .log)) (forget K n (p .box))
+
+  abbrev pub runs : Past Key → List (Deed Key) → Past Key
+  runs p [] = p
+  runs p (d ∷ ds) = runs (after d p) ds
+
+  abbrev pub fromStart : Box Key → List (Deed Key) → Past Key
+  fromStart b ds = runs (past [] b) ds

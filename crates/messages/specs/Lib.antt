@@ -1,0 +1,5 @@
+pub mod Slots
+pub mod Rows
+pub mod Sound
+pub mod History
+pub mod Alone

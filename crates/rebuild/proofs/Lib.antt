@@ -1,0 +1,5 @@
+pub mod Lookup
+pub mod Seen
+pub mod Giving
+pub mod Numbers
+pub mod Page

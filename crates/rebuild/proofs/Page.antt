@@ -1,0 +1,108 @@
+-- The laws of rebuilding for the page's key, four slots and an area of 65,536 octets.
+use mathlib.Core.Path.{_≡_, refl, sym, _∙_}
+use mathlib.Core.Bool.{true, false}
+use mathlib.Core.List.{List}
+use Prim.Native.Nat.{ℕ, _*_, _<_, _≤_}
+use native.Mathlib.Omega.{arith}
+use lib.Dec.{eqb}
+use lib.ListN.{length}
+use borrow.Author.Tests.{eqb-true, eq-eqb}
+use Rattle.messages.specs.Slots.{room, part, KeyLaws, Segment, Box, boxed}
+use Rattle.messages.specs.Rows.{Answer, Done, rebuild}
+use Rattle.messages.specs.Rows.Answer.{refused, taken, completed}
+use Rattle.messages.specs.Sound.{Good, passes}
+use Rattle.messages.specs.History.{Deed, begun, touches, Rebuilt, after, fromStart}
+use Rattle.messages.specs.History.Deed.{segment}
+use Rattle.messages.specs.Alone.{view as seenBy, own, replies, noFifty}
+use Rattle.messages.proofs.Tests.{both-left, both-right}
+use Rattle.messages.proofs.Sound.{good-of, passes-rebuild, passes-forget}
+use Rattle.messages.proofs.History.{completes}
+use Rattle.messages.proofs.Laws.{others, within-taken, within-completed}
+use Rattle.messages.proofs.Alone.{undisturbed}
+use Rattle.rebuild.specs.View.{keys, sameKey, fresh, view, segmentOf}
+use Rattle.rebuild.specs.Calls.{stepOf, Gives, taking, Forgets}
+use Rattle.rebuild.specs.declared.Key.{Key}
+use Rattle.rebuild.specs.declared.Slots.{Slots}
+use Rattle.rebuild.specs.declared.Segment.{Segment as Asked}
+use Rattle.rebuild.specs.declared.Step.the-variants.{Held, Complete}
+use Rattle.rebuild.specs.declared.Taken.{Taken}
+use Rattle.rebuild.specs.declared.Forgot.{Forgot}
+use Rattle.rebuild.proofs.Giving.{gives-by, taking-on}
+
+pub key-laws : KeyLaws keys
+unfolding sameKey
+key-laws =
+    record {
+      only = λ a b e.
+          let e₁ = both-right (eqb (a .source) (b .source)) _ e in
+          let e₂ = both-right (eqb (a .destination) (b .destination)) _ e₁ in
+          let s = eqb-true (a .source) (b .source) (both-left (eqb (a .source) (b .source)) _ e) in
+          let d = eqb-true (a .destination) (b .destination) (both-left (eqb (a .destination) (b .destination)) _ e₁) in
+          let k = eqb-true (a .kind) (b .kind) (both-left (eqb (a .kind) (b .kind)) _ e₂) in
+          let v = eqb-true (a .invoke) (b .invoke) (both-right (eqb (a .kind) (b .kind)) _ e₂) in
+          λ i. record { source = s i; destination = d i; kind = k i; invoke = v i };
+      self = λ a. rw (eq-eqb (a .source) (a .source) refl, eq-eqb (a .destination) (a .destination) refl, eq-eqb (a .kind) (a .kind) refl, eq-eqb (a .invoke) (a .invoke) refl);
+    }
+
+-- 59 passes the four free slots
+pub fresh-passes : passes keys 4 (view fresh) ≡ true
+fresh-passes = refl
+
+-- the answer's cases are told apart
+held-taken : (w : Answer) (s n : ℕ) → stepOf w ≡ Held s n → w ≡ taken s n
+held-taken (refused m) s n e = let z : _≡_ {A = ℕ} 0 1 = cc in absurd (omega arith)
+held-taken (taken i m) s n e = cc
+held-taken (completed i m) s n e = let z : _≡_ {A = ℕ} 0 1 = cc in absurd (omega arith)
+
+complete-completed : (w : Answer) (s n : ℕ) → stepOf w ≡ Complete s n → w ≡ completed s n
+complete-completed (refused m) s n e = let z : _≡_ {A = ℕ} 0 1 = cc in absurd (omega arith)
+complete-completed (taken i m) s n e = let z : _≡_ {A = ℕ} 0 1 = cc in absurd (omega arith)
+complete-completed (completed i m) s n e = cc
+
+-- from slots that 59 passes and an area that 60 passes
+module _ (t : Slots) (a : List ℕ) (p : passes keys 4 (view t) ≡ true) (z : length a ≡ 65536) where
+  abbrev begin : Box Key
+  begin = boxed (view t) a
+
+  pub fair : Good keys begin
+  fair = good-of keys key-laws 4 (view t) a p (eq-eqb (length a) 65536 z)
+
+  pub four : length (view t) ≡ 4
+  four = eqb-true (length (view t)) 4 (both-left (eqb (length (view t)) 4) _ p)
+
+  -- "Each message begun and completed in the run is its key's accepted segments since its latest segment 0, joined in number order."
+  pub page-completes : (ds : List (Deed Key)) (g : Segment Key) (i n : ℕ)
+      → (let q = after keys (segment g) (fromStart keys begin ds) in
+      rebuild keys g (fromStart keys begin ds .box) .answer ≡ completed i n → begun keys (g .key) (q .log) ≡ true → Rebuilt keys (g .key) (q .log) (q .box .area) i n)
+  page-completes ds g i n = completes keys key-laws begin fair ds g i n
+
+  -- a slot that the answer does not name keeps its 16,384 octets
+  pub page-others : (g : Segment Key) (j : ℕ) → j < 4 → touches (rebuild keys g begin .answer) j ≡ false → part (room * j) room (rebuild keys g begin .box .area) ≡ part (room * j) room a
+  page-others g j l = others keys key-laws g begin fair j (rw four l)
+
+  -- what the call leaves passes 59 and 60 again, and its answer names a slot and no more octets than a slot has
+  module _ (g : Asked) (o : List ℕ) {r : Taken} {later : List ℕ} (h : Gives (taking t g o a) r later) where
+    abbrev done : Done Key
+    done = rebuild keys (segmentOf g o) begin
+
+    ruled : Gives done r later
+    ruled = gives-by (sym (taking-on t g o a z)) h
+
+    pub take-keeps : (passes keys 4 (view (r .slots)) ≡ true) × (length later ≡ 65536)
+    take-keeps =
+        let k = passes-rebuild keys key-laws 4 (segmentOf g o) (view t) a p (eq-eqb (length a) 65536 z) in
+        (rw (ruled .slots) (k .0), rw (ruled .area) (eqb-true (length (done .box .area)) 65536 (k .1)))
+
+    pub take-held : (s n : ℕ) → r .answer ≡ Held s n → (s < 4) × (n ≤ 16384)
+    take-held s n e = rw four at (within-taken keys key-laws (segmentOf g o) begin fair s n (held-taken (done .answer) s n (sym (ruled .answer) ∙ e)))
+
+    pub take-complete : (s n : ℕ) → r .answer ≡ Complete s n → (s < 4) × (n ≤ 16384)
+    take-complete s n e = rw four at (within-completed keys key-laws (segmentOf g o) begin fair s n (complete-completed (done .answer) s n (sym (ruled .answer) ∙ e)))
+
+pub forget-keeps : (t : Slots) (s : ℕ) {r : Forgot} → passes keys 4 (view t) ≡ true → Forgets t s r → passes keys 4 (view (r .slots)) ≡ true
+forget-keeps t s p h = rw (h .slots) (passes-forget keys key-laws 4 s (view t) p)
+
+-- two runs that agree on a key, whatever else they do: its answers and messages agree
+pub page-undisturbed : (k : Key) (b c : Box Key) → Good keys b → Good keys c → seenBy keys k b ≡ seenBy keys k c → (ds es : List (Deed Key)) → own keys k b ds ≡ own keys k c es
+    → noFifty (replies keys k b ds) → noFifty (replies keys k c es) → replies keys k b ds ≡ replies keys k c es
+page-undisturbed k = undisturbed keys key-laws k

@@ -1,0 +1,69 @@
+use borrow.Author.Needs.{needs}
+use native.Mathlib.Omega.{arith}
+use borrow.Author.Tests.{eq-eqb, ne-eqb}
+use mathlib.Core.Path.{_≡_, ap, _∙_}
+use mathlib.Core.Option.{some}
+use lib.ListN.{getD}
+use denote.Ref.{now}
+use Rattle.messages.specs.Slots as Messages
+use Rattle.messages.specs.Rows as Rules
+use Rattle.messages.proofs.Rows.{open-restart, open-52, open-53, open-on}
+use Rattle.rebuild.specs.View.{keys, view, seen, freeSlot, segmentOf}
+use Rattle.rebuild.specs.declared.Key.{Key}
+use Rattle.rebuild.proofs.Giving.{gives-by, gives-kept}
+use Rattle.rebuild.proofs.Seen.{seen-at}
+use Rattle.rebuild.proofs.rows.take_open.Statement.{statement}
+use Rattle.rebuild.proofs.rows.take_open.Tie as tie
+
+abbrev seg : tie.Start → Messages.Segment Key
+seg st = segmentOf (st .args .g) (now (st .args .octets))
+
+abbrev box : tie.Start → Messages.Box Key
+box st = Messages.boxed (view (st .args .t1)) (now (st .args .area))
+
+-- the record of slot s
+abbrev here : tie.Start → Messages.Slot Key
+here st = seen (getD (st .args .t1 .slots) (st .args .s) freeSlot)
+
+by-record : (st : tie.Start) → Rules.rows keys (seg st) (some (st .args .s)) (Messages.slotAt keys (view (st .args .t1)) (st .args .s)) (box st) ≡ Rules.rows keys (seg st) (some (st .args .s)) (here st) (box st)
+by-record st = ap (λ (x : Messages.Slot Key). Rules.rows keys (seg st) (some (st .args .s)) x (box st)) (seen-at (st .args .t1) (st .args .s))
+
+returns : tie.Need-returns
+returns c =
+    let st = c .before .before .before .before .before .before .before .before in
+    gives-by (by-record st ∙ open-restart keys (seg st) (box st) (st .args .s) (here st) (eq-eqb _ _ (c .before .before .before .before .if1 .taken))) (c .before .before .fitted .ensures)
+
+returns-2 : tie.Need-returns-2
+returns-2 c =
+    let st = c .before .before .before .before .before .before .before .before .before in
+    gives-by (by-record st ∙ open-52 keys (seg st) (box st) (st .args .s) (here st) (ne-eqb _ _ (c .before .before .before .before .before .if1 .left)) (ne-eqb (st .args .g .number) (here st .next) (λ e. omega (arith, c .before .if2 .taken))))
+    (gives-kept (st .args .t1) (now (st .args .area)) 52 (c .kept .ensures))
+
+returns-3 : tie.Need-returns-3
+returns-3 c =
+    let st = c .before .before .before .before .before .before .before .before .before .before .before .before in
+    gives-by (by-record st ∙ open-53 keys (seg st) (box st) (st .args .s) (here st) (ne-eqb _ _ (c .before .before .before .before .before .before .before .before .if1 .left)) (eq-eqb (st .args .g .number) (here st .next) (omega (arith, c .before .before .before .before .if2 .left))) (ne-eqb _ _ (c .before .if3 .taken)))
+    (gives-kept (st .args .t1) (now (st .args .area)) 53 (c .kept2 .ensures))
+
+returns-4 : tie.Need-returns-4
+returns-4 c =
+    let st = c .before .before .before .before .before .before .before .before .before .before .before .before .before .before .before .before in
+    gives-by (by-record st ∙ open-on keys (seg st) (box st) (st .args .s) (here st) (ne-eqb _ _ (c .before .before .before .before .before .before .before .before .before .before .before .before .if1 .left)) (eq-eqb (st .args .g .number) (here st .next) (omega (arith, c .before .before .before .before .before .before .before .before .if2 .left))) (eq-eqb _ _ (c .before .before .before .before .before .if3 .left))) (c .before .before .fitted2 .ensures)
+
+pub take-open-spec : {M : Type 1} → statement M
+take-open-spec =
+    tie.close
+    (tie.spec
+    (λ c κs. search needs)
+    (λ c. search needs)
+    returns
+    (λ c. search needs)
+    (λ c. search needs)
+    (λ c κs. search needs)
+    returns-2
+    (λ c κs. search needs)
+    returns-3
+    (λ c. search needs)
+    (λ c κs. search needs)
+    (λ c. search needs)
+    returns-4)

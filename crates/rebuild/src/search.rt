@@ -1,0 +1,99 @@
+// The searches of the slots.
+use crate::Key;
+use crate::Slot;
+use crate::Slots;
+ghost use mathlib.Core.Path.{_≡_};
+ghost use Prim.Native.Nat.{_+_, _≤_, _<_};
+ghost use lib.ListN.{drop};
+ghost use Rattle.messages.specs.Slots.{lowest, openTo, isFree, slotAt};
+ghost use Rattle.messages.specs.Sound as Sound;
+ghost use Rattle.rebuild.specs.View.{keys, seen, view, sameKey, found};
+
+// A slot's number, or none.
+pub enum Found {
+    At(usize),
+    Nothing,
+}
+
+// The one place where keys are compared.
+pub fn same_key(a: Key, b: Key) -> bool
+    ensures { λ r. ⌜ r ≡ sameKey a b ⌝ }
+{
+    if a.source != b.source {
+        return false;
+    }
+    if a.destination != b.destination {
+        return false;
+    }
+    if a.kind != b.kind {
+        return false;
+    }
+    a.invoke == b.invoke
+}
+
+// Whether a slot is open and has the key.
+fn open_to(x: Slot, k: Key) -> bool
+    ensures { λ r. ⌜ r ≡ openTo keys k (seen x) ⌝ }
+{
+    let used = x.used;
+    if !used {
+        return false;
+    }
+    let y = x.key;
+    same_key(y, k)
+}
+
+// The lowest slot from a place on that is open and has the key.
+pub fn open_slot(t: Slots, k: Key, start: usize) -> Found
+    requires { ⌜ start ≤ 4 ⌝ }
+    ensures { λ r. ⌜ r ≡ found start (lowest (openTo keys k) (drop start (view t))) ⌝ }
+{
+    let mut s = start;
+    let slot = loop {
+        if 4 <= s {
+            break Found::Nothing;
+        }
+        let x = t.slots[s];
+        if open_to(x, k) {
+            break Found::At(s);
+        }
+        s += 1;
+    };
+    slot
+}
+
+// "the search stops at the lowest free slot"
+pub fn lowest_free(t: Slots) -> Found
+    ensures { λ r. ⌜ r ≡ found 0 (lowest (isFree keys) (view t)) ⌝ }
+{
+    let mut s = 0;
+    let slot = loop {
+        if 4 <= s {
+            break Found::Nothing;
+        }
+        let x = t.slots[s];
+        let used = x.used;
+        if !used {
+            break Found::At(s);
+        }
+        s += 1;
+    };
+    slot
+}
+
+// Whether slot s is open and a later open slot has its key.
+pub fn twice(t: Slots, s: usize) -> bool
+    requires { ⌜ s < 4 ⌝ }
+    ensures { λ r. ⌜ r ≡ Sound.twice keys (slotAt keys (view t) s) (drop (s + 1) (view t)) ⌝ }
+{
+    let x = t.slots[s];
+    let used = x.used;
+    if !used {
+        return false;
+    }
+    let k = x.key;
+    match open_slot(t, k, s + 1) {
+        Found::At(_) => true,
+        Found::Nothing => false,
+    }
+}

@@ -1,0 +1,1 @@
+// Demand 3 over any frame rules and any key: laws only.

@@ -1,0 +1,5 @@
+pub mod Types
+pub mod Head
+pub mod Layout
+pub mod Decide
+pub mod Signed

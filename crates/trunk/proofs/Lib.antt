@@ -1,0 +1,10 @@
+pub mod Spans
+pub mod Reading
+pub mod Held
+pub mod Demand
+pub mod Recording
+pub mod Stands
+pub mod Turns
+pub mod Frames
+pub mod Laws
+pub mod Examples
