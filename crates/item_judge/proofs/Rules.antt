@@ -1,52 +1,52 @@
--- The contents rules by the length and the first octets.
-use Prim.Native.Nat.{ℕ}
+-- The contents rule of the item reader, judged in the source, is the one that the layout states of the contents.
+use Prim.Native.Nat.{ℕ, _+_, _-_, _≤_, _<_}
 use native.Mathlib.Omega.{arith}
-use mathlib.Core.Path.{_≡_, refl}
-use mathlib.Core.List.{List, [], _∷_}
-use mathlib.Core.Bool.{Bool, true, false}
-use lib.ListN.{length}
-use lib.Dec.{ltb, leb, eqb}
-use borrow.Author.Tests.{le-ltb, eqb-true}
-use Rattle.octets.specs.Choice.{pick, both, non, by-test}
-use Rattle.octets.specs.Reading.{oct}
-use Rattle.tags.specs.Layout.{shortUnsigned, shortSigned, goodCharacters, goodBits}
+use mathlib.Core.Path.{_≡_, _∙_}
+use mathlib.Core.List.{List, []}
+use mathlib.Core.Bool.{false}
+use lib.ListN.{length, take, drop, length-take, length-drop}
+use lib.Dec.{leb, eqb}
+use borrow.Author.Tests.{le-leb, leb-true, leb-false, eqb-true, eqb-false, ne-eqb}
+use Rattle.octets.specs.Choice.{by-test}
+use Rattle.octets.specs.Has.{has-take}
+use Rattle.tags.specs.Types.{least, most}
+use Rattle.tags.specs.Head.{contentsAt}
+use Rattle.tags.specs.Layout.{goodContents}
+use Rattle.tags.proofs.Bounds.{contents-in}
+use Rattle.tags.proofs.Rule.{contents-exact}
+use Rattle.item_judge.specs.Kinds.{insideTest, contentsRule, typeRule}
 
-more : (xs : List ℕ) (x y : ℕ) → (ltb (length (x ∷ y ∷ xs)) 1 ≡ false) × (ltb (length (x ∷ y ∷ xs)) 2 ≡ false)
-more xs x y = (le-ltb (length (x ∷ y ∷ xs)) 1 (omega arith), le-ltb (length (x ∷ y ∷ xs)) 2 (omega arith))
+module _ (s : List ℕ) (n p len : ℕ) (low : least n ≤ len) where
+  -- contents that lie in the source
+  inside-test : p + len ≤ length s → eqb (contentsAt s p n len) 0 ≡ goodContents n (take len (drop p s))
+  inside-test h =
+      let l : length (take len (drop p s)) ≡ len = simp (length-take, length-drop) (omega arith) in
+      rw l at (contents-exact s p n (take len (drop p s)) (has-take s p len h) (rw l low))
 
-pub unsigned-tests : (xs : List ℕ) → shortUnsigned xs ≡ pick (ltb (length xs) 1) false (pick (ltb (length xs) 2) true (pick (eqb (oct xs 0) 0) false true))
-unsigned-tests [] = refl
-unsigned-tests (x ∷ []) = refl
-unsigned-tests (x ∷ y ∷ xs) = rw (more xs x y .0, more xs x y .1) (go (eqb x 0))
-  where
-    go : (b : Bool) → non b ≡ pick b false true
-    go true = refl
-    go false = refl
+  -- contents that do not are refused
+  outside-test : (len ≡ 0 → ⊥) → length s < p + len → eqb (contentsAt s p n len) 0 ≡ false
+  unfolding contentsAt
+  outside-test some h =
+      by-test (leb (length s) p)
+      (λ e. rw (ne-eqb len 0 some, e))
+      (λ e. ne-eqb (contentsAt s p n len) 0 (λ w. omega (arith, contents-in s p len (omega (arith, leb-false (length s) p e)) n (rw w))))
 
-pub signed-tests : (xs : List ℕ)
-    → shortSigned xs ≡ pick (ltb (length xs) 1) false (pick (ltb (length xs) 2) true
-    (pick (eqb (oct xs 0) 0) (pick (ltb (oct xs 1) 128) false true) (pick (eqb (oct xs 0) 255) (pick (leb 128 (oct xs 1)) false true) true)))
-signed-tests [] = refl
-signed-tests (x ∷ []) = refl
-signed-tests (x ∷ y ∷ xs) = rw (more xs x y .0, more xs x y .1)
-    (by-test (eqb x 0)
-    (λ z. let e : x ≡ 0 = eqb-true x 0 z in rw e (go (ltb y 128)))
-    (λ z. rw z (go2 (eqb x 255) (leb 128 y))))
-  where
-    go : (b : Bool) → both (non b) true ≡ pick b false true
-    go true = refl
-    go false = refl
+  -- where there are none the place is not looked at
+  none-test : len ≡ 0 → eqb (contentsAt s p n len) 0 ≡ goodContents n []
+  unfolding contentsAt
+  none-test e = rw e (contents-exact [] 0 n [] (omega arith) (omega arith))
 
-    go2 : (a b : Bool) → non (both a b) ≡ pick a (pick b false true) true
-    go2 true true = refl
-    go2 true false = refl
-    go2 false b = refl
+  contents-test : eqb (contentsAt s p n len) 0 ≡ contentsRule s n p len
+  unfolding contentsRule insideTest
+  contents-test =
+      by-test (eqb len 0)
+      (λ z. let e : len ≡ 0 = eqb-true len 0 z in none-test e ∙ rw e)
+      (λ z. by-test (leb p (length s))
+      (λ a. by-test (leb len (length s - p))
+      (λ b. rw (z, a, b) (inside-test (omega (arith, leb-true p (length s) a, leb-true len (length s - p) b))))
+      (λ b. rw (z, a, b) (outside-test (eqb-false len 0 z) (omega (arith, leb-true p (length s) a, leb-false len (length s - p) b)))))
+      (λ a. rw (z, a) (outside-test (eqb-false len 0 z) (omega (arith, leb-false p (length s) a)))))
 
-pub characters-tests : (xs : List ℕ) → goodCharacters xs ≡ pick (ltb (length xs) 1) false (leb (oct xs 0) 5)
-characters-tests [] = refl
-characters-tests (x ∷ xs) = rw (le-ltb (length (x ∷ xs)) 1 (omega arith))
-
-pub bits-tests : (xs : List ℕ) → goodBits xs ≡ pick (ltb (length xs) 1) false (pick (ltb (length xs) 2) (eqb (oct xs 0) 0) (leb (oct xs 0) 7))
-bits-tests [] = refl
-bits-tests (x ∷ []) = refl
-bits-tests (x ∷ y ∷ xs) = rw (more xs x y .0, more xs x y .1)
+  pub type-test : len ≤ most n → eqb (contentsAt s p n len) 0 ≡ typeRule s n p len
+  unfolding typeRule
+  type-test high = rw (le-leb (least n) len low, le-leb len (most n) high) contents-test
