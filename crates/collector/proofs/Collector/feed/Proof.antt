@@ -53,9 +53,10 @@ slice-aggregate-act : tie.Need-slice-aggregate-act
 slice-aggregate-act c = sym (length-take-le _ _ (in-store (c .before .before .before .before .before .before .before .before .before .before .before .before .before .before .before .before .before .args .self .receiver) (now (c .before .before .before .before .before .before .before .before .before .before .before .before .before .before .before .before .before .args .piece)) (store-size (c .before .before .before .before .before .before .before .before .before .before .before .before .before .before .before .before .before)) (c .before .before .before .before .before .before .before .before .feed .ensures) (c .before .before .before .before .before .enum-told2 .given .1) (c .before .length-of .ensures)))
 
 act-requires : tie.Need-act-requires
-act-requires c κs =
-    (record { line = c .before .before .before .before .before .before .before .before .before .before .before .before .before .before .before .if1 .left; fair = sym (c .before .before .before .before .before .before .before .before .before .before .before .before .sound .ensures) ∙ not-false _ (c .before .before .before .before .before .before .before .before .before .before .before .if3 .left); sized = c .before .before .before .before .before .before .before .before .before .before .before .before .before .before .if2 .left },
-    payload-fits _ _ (data-fits (c .before .before .before .before .before .before .before .before .before .before .before .before .before .before .before .before .before .before .before .args .self .receiver) (now (c .before .before .before .before .before .before .before .before .before .before .before .before .before .before .before .before .before .before .before .args .piece)) (c .before .before .before .before .before .before .before .before .before .before .feed .ensures) (c .before .before .before .before .before .before .before .enum-told2 .given .1) (c .before .before .before .length-of .ensures)))
+act-requires c κs = (
+  record { line = c .before .before .before .before .before .before .before .before .before .before .before .before .before .before .before .if1 .left; fair = sym (c .before .before .before .before .before .before .before .before .before .before .before .before .sound .ensures) ∙ not-false _ (c .before .before .before .before .before .before .before .before .before .before .before .if3 .left); sized = c .before .before .before .before .before .before .before .before .before .before .before .before .before .before .if2 .left },
+  payload-fits _ _ (data-fits (c .before .before .before .before .before .before .before .before .before .before .before .before .before .before .before .before .before .before .before .args .self .receiver) (now (c .before .before .before .before .before .before .before .before .before .before .before .before .before .before .before .before .before .before .before .args .piece)) (c .before .before .before .before .before .before .before .before .before .before .feed .ensures) (c .before .before .before .before .before .before .before .enum-told2 .given .1) (c .before .before .before .length-of .ensures)),
+)
 
 returns-4 : tie.Need-returns-4
 returns-4 c = feeds-on (c .before .before .before .before .before .before .before .before .before .before .before .before .args .self) (now (c .before .before .before .before .before .before .before .before .before .before .before .before .args .report)) (now (c .before .before .before .before .before .before .before .before .before .before .before .before .args .area)) (now (c .before .before .before .before .before .before .before .before .before .before .before .before .args .piece)) (c .before .before .before .before .before .before .before .before .if1 .left) (c .before .before .before .before .before .before .before .if2 .left) (sym (c .before .before .before .before .before .sound .ensures) ∙ not-false _ (c .before .before .before .before .if3 .left)) (c .before .before .before .feed .ensures) (tells-quiet (c .before .before .before .feed .result) (c .before .before .before .before .before .before .before .before .before .before .before .before .args .self .slots) (now (c .before .before .before .before .before .before .before .before .before .before .before .before .args .report)) (now (c .before .before .before .before .before .before .before .before .before .before .before .before .args .area)) (c .enum-told .given .1))
