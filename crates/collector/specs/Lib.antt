@@ -1,3 +1,4 @@
 pub mod Report
 pub mod Frame
+pub mod Acting
 pub mod Calls

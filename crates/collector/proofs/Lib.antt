@@ -1,0 +1,4 @@
+pub mod Sixteen
+pub mod Content
+pub mod Actions
+pub mod Answers
