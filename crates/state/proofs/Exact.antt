@@ -6,7 +6,7 @@ use mathlib.Core.List.{List}
 use lib.Dec.{eqb}
 use lib.ListN.{length}
 use borrow.Author.Tests.{eq-eqb, eqb-true}
-use Rattle.octets.specs.Choice.{pick-so}
+use Rattle.octets.specs.Choice.{pick-so, by-test}
 use Rattle.octets.specs.Reading.{Octets}
 use Rattle.octets.specs.Has.{all-has}
 use Rattle.octets.specs.Exact.{Exactly}
@@ -41,3 +41,10 @@ loads-only o c os e =
 
 pub state-exactly : Exactly Loads Fits stateOctets
 state-exactly = record { sound = loads-only; complete = loads-back }
+
+-- what loading accepts has a state's size
+pub accepted-size : (o : List ℕ) → loadOf o .refused ≡ 0 → length o ≡ stateSize
+unfolding loadOf
+accepted-size o e =
+    by-test (eqb (length o) stateSize) (eqb-true (length o) stateSize)
+    (λ d. let z : _≡_ {A = ℕ} 60 0 = rw d at e in absurd (omega arith))

@@ -17,13 +17,9 @@ ghost use Rattle.state.specs.Calls.{phaseGood, slotsGood, stateGood, pha
 pub fn refused(n: u8) -> Loaded
     ensures { λ r. ⌜ r ≡ loaded n freshCollector ⌝ }
 {
-    let c = Collector {
-        receiver: Receiver::FRESH,
-        slots: Slots::FREE,
-    };
     Loaded {
         refused: n,
-        state: c,
+        state: Collector::FRESH,
     }
 }
 
