@@ -85,7 +85,14 @@ fn put_answer(head: [u8; 5], p: Pdu, a: &[u8], step: Step, out: &mut [u8], area:
 }
 
 // A segment: rebuilding, then its report.
-fn act_segment(head: [u8; 5], p: Pdu, a: &[u8], slots: Slots, out: &mut [u8], area: &mut [u8]) -> Slots
+fn act_segment(
+    head: [u8; 5],
+    p: Pdu,
+    a: &[u8],
+    slots: Slots,
+    out: &mut [u8],
+    area: &mut [u8],
+) -> Slots
     requires { ⌜ Lent (now out) slots (now area) × (paramsAt p ≤ length (now a)) ⌝ }
     ensures { λ r. ⌜ Acted (segmentActs head p (now (a .entry)) (view slots) (now (area .entry))) r (now (out .exit)) (now (area .exit)) ⌝ }
 {
