@@ -4,11 +4,11 @@ use mathlib.Core.Path.{_≡_}
 use mathlib.Core.List.{List, [], _∷_, _++_}
 use lib.ListN.{length}
 use Rattle.tags.specs.Types.{longest}
-use Rattle.tags.specs.Layout.{Thing, encode, Valid, tagLength, contentsOf}
+use Rattle.tags.specs.Layout.{Thing, encode, Valid, tagLength}
 use Rattle.tags.specs.Layout.Thing.{application, boolean, context, opening, closing}
 use Rattle.items.specs.Records.{Rec, rec, thingsOf}
-use Rattle.items.specs.Reading.{Out, itemsOf, mostItems, deepest}
-use Rattle.items.specs.Reading.Out.{good, bad}
+use Rattle.items.specs.Reading.{itemsOf, mostItems, deepest}
+use Rattle.items.specs.Reading.Out.{good}
 
 unfoldable pub encodeAll : List Thing → List ℕ
 encodeAll [] = []

@@ -12,6 +12,7 @@ use Rattle.tags.specs.declared.Tag.the-variants.{Item, Opening, Closing, Refuse
 use Rattle.items.specs.Records.{Rec, rec}
 use Rattle.items.specs.declared.Tally.{Tally}
 use Rattle.items.specs.declared.Tally.the-variants.{Items}
+use Rattle.items.specs.declared.One.{One}
 
 -- "At most 2,048 items, 16 open"
 abbrev pub mostItems : ℕ
@@ -75,3 +76,8 @@ within (suc k) s at groups = whileOpen at groups (pick (leb (length s) at) (bad 
 -- one item with its whole group: its records and the place after it
 unfoldable pub itemAt : List ℕ → ℕ → Out
 itemAt s at = step (within (mostItems - 1) s) (headAt s at) []
+
+-- what reading one item answers
+unfoldable pub endOf : Out → One
+endOf (good rs end) = One.Next end
+endOf (bad x) = One.Refused x

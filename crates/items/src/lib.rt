@@ -1,4 +1,10 @@
-// Tag items: counted and listed.
+// Tag items: counted, listed, and read one by one.
+mod cycle;
+mod records;
+
+ghost use mathlib.Core.Path.{_≡_};
+ghost use Rattle.items.specs.Reading.{itemsOf, counted, itemAt, endOf};
+ghost use Rattle.items.specs.Listing.{Listed, Ran};
 
 // What counting and listing answer: the number of items, or the number of the refusal.
 pub enum Tally {
@@ -11,4 +17,82 @@ pub enum Step {
     Next { at: usize, items: usize },
     Closed { number: u8, at: usize, items: usize },
     Refused(u8),
+}
+
+// What reading one item with its whole group answers: the place after it, or the number of the refusal.
+pub enum One {
+    Next(usize),
+    Refused(u8),
+}
+
+// Reads all items and puts their records where they fit.
+fn run(s: &[u8], out: &mut [u8]) -> Tally
+    ensures { λ r. ⌜ Ran (now (s .entry)) (now (out .entry)) r (now (out .exit)) ⌝ }
+{
+    if 16384 < s.len() {
+        return Tally::Refused(39);
+    }
+    let mut p = 0;
+    let mut k = 0;
+    while p < s.len() {
+        let r = cycle::item(s, p, 0, k, out);
+        match r {
+            Step::Next { at, items } => {
+                p = at;
+                k = items;
+            }
+            Step::Closed {
+                number: _,
+                at: _,
+                items: _,
+            } => {
+                return Tally::Refused(35);
+            }
+            Step::Refused(x) => {
+                return Tally::Refused(x);
+            }
+        }
+    }
+    Tally::Items(k)
+}
+
+// How many items the octets are.
+pub fn count(s: &[u8]) -> Tally
+    ensures { λ r. ⌜ r ≡ counted (itemsOf (now (s .entry))) ⌝ }
+{
+    let mut none = [0u8; 0];
+    run(s, &mut none)
+}
+
+// Writes the record of each item, 12 octets each, where there is room for all of them.
+pub fn list(s: &[u8], out: &mut [u8]) -> Tally
+    ensures { λ r. ⌜ Listed (now (s .entry)) (now (out .entry)) r (now (out .exit)) ⌝ }
+{
+    let c = count(s);
+    match c {
+        Tally::Items(n) => {
+            if out.len() / 12 < n {
+                return Tally::Refused(61);
+            }
+            run(s, out)
+        }
+        Tally::Refused(x) => Tally::Refused(x),
+    }
+}
+
+// The place after the item at a place, with its whole group where it opens one.
+pub fn item_at(s: &[u8], at: usize) -> One
+    ensures { λ r. ⌜ r ≡ endOf (itemAt (now (s .entry)) at) ⌝ }
+{
+    let mut none = [0u8; 0];
+    let r = cycle::item(s, at, 0, 0, &mut none);
+    match r {
+        Step::Next { at: to, items: _ } => One::Next(to),
+        Step::Closed {
+            number: _,
+            at: _,
+            items: _,
+        } => One::Refused(35),
+        Step::Refused(x) => One::Refused(x),
+    }
 }

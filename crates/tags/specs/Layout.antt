@@ -6,6 +6,7 @@ use mathlib.Core.Bool.{Bool, true, false}
 use lib.ListN.{length}
 use lib.Dec.{ltb, leb, eqb}
 use Rattle.octets.specs.Choice.{pick, both, non}
+use Rattle.octets.specs.Has.{Has}
 use Rattle.tags.specs.Types.{longest, least, most}
 use Rattle.tags.specs.declared.Tag.{Tag}
 use Rattle.tags.specs.declared.Tag.the-variants.{Item, Opening, Closing, Refused}
@@ -109,3 +110,14 @@ tagOf at (boolean v) = Item 0 1 v (at + tagLength (boolean v)) 0
 tagOf at (context n xs) = Item 1 n 0 (at + tagLength (context n xs)) (length xs)
 tagOf at (opening n) = Opening n (at + tagLength (opening n))
 tagOf at (closing n) = Closing n (at + tagLength (closing n))
+
+-- a head that is no refusal
+abbrev pub Good : Tag → Type 0
+Good (Item k n v p l) = Unit {0}
+Good (Opening n p) = Unit {0}
+Good (Closing n p) = Unit {0}
+Good (Refused x) = ⊥
+
+-- a head is that of an item which keeps the rules and stands at the place
+abbrev pub Stands : List ℕ → ℕ → Tag → Type 0
+Stands s at u = (t : Thing) × Valid t × Has s at (encode t) × (u ≡ tagOf at t)

@@ -1,3 +1,4 @@
 pub mod Types
 pub mod Head
 pub mod Layout
+pub mod Decide

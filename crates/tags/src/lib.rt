@@ -1,4 +1,11 @@
 // One tag item at a place: its number, class and length in their forms, and its contents judged.
+mod contents;
+mod fields;
+mod kinds;
+
+ghost use mathlib.Core.Path.{_≡_};
+ghost use Prim.Native.Nat.{ℕ};
+ghost use Rattle.tags.specs.Head.{headAt};
 
 // A field of a tag: its value and the place after it, or the number of its refusal.
 pub enum Field {
@@ -25,4 +32,29 @@ pub enum Tag {
         place: usize,
     },
     Refused(u8),
+}
+
+// The item at a place, its contents judged. "Octets are judged left to right."
+pub fn head(s: &[u8], at: usize) -> Tag
+    ensures { λ r. ⌜ r ≡ headAt (now (s .entry)) at ⌝ }
+{
+    if s.len() <= at {
+        return Tag::Refused(30);
+    }
+    let b = s[at];
+    let x = kinds::first_rule(b);
+    if 0 < x {
+        return Tag::Refused(x);
+    }
+    let f = fields::number(s, at);
+    match f {
+        Field::Is { value, next } => {
+            let n = value as u8;
+            if b % 16 / 8 == 1 {
+                return kinds::context(s, b % 8, n, next);
+            }
+            kinds::application(s, b % 8, n, next)
+        }
+        Field::Bad(x) => Tag::Refused(x),
+    }
 }

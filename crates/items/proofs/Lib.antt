@@ -1,0 +1,9 @@
+pub mod Machine
+pub mod Steps
+pub mod Walk
+pub mod RecordOctets
+pub mod Listing
+pub mod Left
+pub mod Exact
+pub mod Back
+pub mod Examples

@@ -1,0 +1,4 @@
+pub mod Bounds
+pub mod Spelling
+pub mod Rule
+pub mod Exact
