@@ -8,7 +8,8 @@ use borrow.Author.Tests.{lt-ltb, le-ltb}
 use Rattle.items.specs.Records.{Rec, recordsOctets}
 use Rattle.items.specs.Reading.{Out, itemsOf, counted}
 use Rattle.items.specs.Reading.Out.{good, bad}
-use Rattle.items.specs.Listing.{listedOf, listing, Listed, Ran}
+use Rattle.items.specs.Cycle.{Ran}
+use Rattle.items.specs.Listing.{listedOf, listing, Listed}
 use Rattle.items.specs.declared.Tally.{Tally}
 use Rattle.items.specs.declared.Tally.the-variants.{Items}
 use Rattle.items.proofs.RecordOctets.{records-length, put-all}

@@ -6,7 +6,7 @@ use native.Mathlib.Nat.{zero-add}
 use mathlib.Core.Path.{_≡_, refl, sym, _∙_}
 use mathlib.Core.List.{List, [], _∷_, _++_}
 use lib.ListN.{length, getD, set, length-append}
-use borrow.Author.Tests.{lt-leb}
+use borrow.Author.Tests.{lt-leb, le-leb}
 use Rattle.octets.specs.Has.{Has, has-at, has-left, has-right, has-bound, all-has}
 use Rattle.octets.specs.Splice.{splice, splice-nil, splice-length, splice-join, splice-sets, splice-then}
 use Rattle.octets.specs.Numbers.{valueAt, digits, value-shift, value-digits, length-digits, digits-four}
@@ -81,6 +81,11 @@ four-wraps v =
     let c : v % 4294967296 / 256 % 256 ≡ v / 256 % 256 = omega arith in
     let d : v % 4294967296 % 256 ≡ v % 256 = omega arith in
     digits-four (v % 4294967296) ∙ rw (a, b, c, d) (sym (digits-four v))
+
+-- a record that does not fit is not put
+pub put-none : (l : List ℕ) (i : ℕ) (r : Rec) → length l / 12 ≤ i → l ≡ putRecord l i r
+unfolding putRecord
+put-none l i r h = rw (le-leb _ _ h)
 
 -- what putting a record stores
 pub put-stores : (l l4 l8 : List ℕ) (i k n d v p q : ℕ) → i < length l / 12

@@ -13,8 +13,7 @@ use Rattle.tags.specs.Types.{longest}
 use Rattle.items.specs.Records.{Rec}
 use Rattle.items.specs.Reading.{Out, more, ending, closes, step, walk, itemsOf, counted, within, itemAt, endOf, mostItems}
 use Rattle.items.specs.Reading.Out.{good, bad}
-use Rattle.items.specs.Cycle.{Rest, begins, Inside, ItemSays, putRecords}
-use Rattle.items.specs.Listing.{Ran}
+use Rattle.items.specs.Cycle.{Ran, Rest, begins, Inside, ItemSays, putRecords}
 use Rattle.items.specs.declared.One.{One}
 use Rattle.items.specs.declared.Tally.{Tally}
 use Rattle.items.specs.declared.Tally.the-variants.{Items}

@@ -10,8 +10,9 @@ use Rattle.octets.specs.Splice.{splice}
 use Rattle.tags.specs.Head.{headAt}
 use Rattle.tags.specs.declared.Tag.the-variants.{Closing}
 use Rattle.items.specs.Records.{Rec, recordOctets}
-use Rattle.items.specs.Reading.{Out, more, step, mostItems}
-use Rattle.items.specs.Reading.Out.{bad}
+use Rattle.items.specs.Reading.{Out, more, step, mostItems, itemsOf, counted}
+use Rattle.items.specs.Reading.Out.{good, bad}
+use Rattle.items.specs.declared.Tally.{Tally}
 use Rattle.items.specs.declared.Step.{Step}
 use Rattle.items.specs.declared.Step.the-variants.{Next, Closed, Refused}
 
@@ -72,3 +73,8 @@ abbrev pub GroupSays : List ℕ → ℕ → ℕ → ℕ → ℕ → List ℕ →
 GroupSays s at n d i area later (Next to j) = (rs : List Rec) × Went s d (fromGroup at n i) at i to j rs × (later ≡ putRecords area i rs)
 GroupSays s at n d i area later (Closed m to j) = ⊥
 GroupSays s at n d i area later (Refused x) = Stops s d (fromGroup at n i) x
+
+-- what the reading of all items promises: the count, and every record of a good reading put where it fits
+pub record Ran (s area : List ℕ) (r : Tally) (later : List ℕ) : Type 0 where
+  pub answer : r ≡ counted (itemsOf s)
+  pub laid : (rs : List Rec) (end : ℕ) → itemsOf s ≡ good rs end → later ≡ putRecords area 0 rs

@@ -4,7 +4,8 @@ mod records;
 
 ghost use mathlib.Core.Path.{_≡_};
 ghost use Rattle.items.specs.Reading.{itemsOf, counted, itemAt, endOf};
-ghost use Rattle.items.specs.Listing.{Listed, Ran};
+ghost use Rattle.items.specs.Cycle.{Ran};
+ghost use Rattle.items.specs.Listing.{Listed};
 
 // What counting and listing answer: the number of items, or the number of the refusal.
 pub enum Tally {
