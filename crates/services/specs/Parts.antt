@@ -9,13 +9,14 @@ use Rattle.octets.specs.Choice.{pick, both, non}
 use Rattle.octets.specs.Reading.{oct, refuse}
 use Rattle.octets.specs.Numbers.{valueAt, longForm}
 use Rattle.items.specs.Records.{Rec}
-use Rattle.services.specs.declared.Read.{Read}
-use Rattle.services.specs.declared.Read.the-variants.{Good, Refused}
+use Rattle.services.specs.declared.Answer.{Answer}
+use Rattle.services.specs.declared.Answer.the-variants.{Good, Refused}
 use Rattle.services.specs.declared.Service.{Service}
+use Rattle.services.specs.declared.Span.{Span}
 
 -- how reading goes on with what a part gave and the records after it
 abbrev pub Then : Type 0
-Then = ℕ → List Rec → Read
+Then = ℕ → List Rec → Answer
 
 -- an item of this kind and number (0 application, 1 context, 2 opening)
 abbrev pub is : ℕ → ℕ → Rec → Bool
@@ -27,7 +28,7 @@ present number [] = false
 present number (r ∷ rest) = is 1 number r
 
 -- the wanted item, judged, with its value
-unfoldable pub wanted : ℕ → ℕ → (Rec → ℕ) → (Rec → ℕ) → Then → List Rec → Read
+unfoldable pub wanted : ℕ → ℕ → (Rec → ℕ) → (Rec → ℕ) → Then → List Rec → Answer
 wanted kind number rule value next [] = Refused 40
 wanted kind number rule value next (r ∷ rest) =
     refuse (non (is kind number r)) (Refused 40)
@@ -62,32 +63,32 @@ abbrev pub instanceOf : ℕ → ℕ
 instanceOf v = v % 4194304
 
 -- a context number within a range, and an application one of type n (2 unsigned, 9 enumerated)
-abbrev pub contextNumber : List ℕ → ℕ → ℕ → ℕ → Then → List Rec → Read
+abbrev pub contextNumber : List ℕ → ℕ → ℕ → ℕ → Then → List Rec → Answer
 contextNumber s number low high = wanted 1 number (numberRule s low high) (numberOf s)
 
-abbrev pub applicationNumber : List ℕ → ℕ → ℕ → ℕ → Then → List Rec → Read
+abbrev pub applicationNumber : List ℕ → ℕ → ℕ → ℕ → Then → List Rec → Answer
 applicationNumber s number low high = wanted 0 number (numberRule s low high) (numberOf s)
 
-abbrev pub contextObject : List ℕ → ℕ → Then → List Rec → Read
+abbrev pub contextObject : List ℕ → ℕ → Then → List Rec → Answer
 contextObject s number = wanted 1 number objectRule (numberOf s)
 
 -- an optional number: whether it is there, and its value, else 0
-unfoldable pub optionalNumber : List ℕ → ℕ → ℕ → ℕ → (Bool → ℕ → List Rec → Read) → List Rec → Read
+unfoldable pub optionalNumber : List ℕ → ℕ → ℕ → ℕ → (Bool → ℕ → List Rec → Answer) → List Rec → Answer
 optionalNumber s number low high next rs = pick (present number rs) (contextNumber s number low high (next true) rs) (next false 0 rs)
 
 -- the records after the closing of the group that is open, and the place of that closing: the first of the depth outside it
-unfoldable pub afterGroup : (ℕ → List Rec → Read) → List Rec → Read
+unfoldable pub afterGroup : (ℕ → List Rec → Answer) → List Rec → Answer
 afterGroup next [] = Refused 40
 afterGroup next (r ∷ rest) = pick (both (eqb (r .kind) 3) (eqb (r .depth) 0)) (next (r .place) rest) (afterGroup next rest)
 
 -- "a group 3, the value, possibly empty": the octets between the opening's tag and the closing's, which is one octet
-unfoldable pub group : ℕ → (ℕ → ℕ → List Rec → Read) → List Rec → Read
+unfoldable pub group : ℕ → (Span → List Rec → Answer) → List Rec → Answer
 group number next [] = Refused 40
 group number next (r ∷ rest) =
     refuse (non (is 2 number r)) (Refused 40)
-    (afterGroup (λ end rs. next (r .place) (end - 1 - r .place) rs) rest)
+    (afterGroup (λ end. next (record { at = r .place; len = end - 1 - r .place })) rest)
 
 -- 42: "an item after the last"
-unfoldable pub last : Service → List Rec → Read
+unfoldable pub last : Service → List Rec → Answer
 last v [] = Good v
 last v (r ∷ rest) = Refused 42

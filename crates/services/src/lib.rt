@@ -1,4 +1,12 @@
 // The six services, read and written (clause 21).
+mod others;
+mod parts;
+mod property;
+
+use items::Tally;
+ghost use mathlib.Core.Path.{_≡_};
+ghost use Rattle.services.specs.Reading.{layoutFor, readService};
+ghost use Rattle.services.specs.Places.{Answers};
 
 // What ReadProperty and WriteProperty point at: an object, a property and, where `indexed`, an array index (0 where it is absent).
 pub struct Target {
@@ -57,7 +65,76 @@ pub enum Service {
 }
 
 // What reading a service answers: the service with its own fields, or the number of the refusal.
-pub enum Read {
+pub enum Answer {
     Good(Service),
     Refused(u8),
+}
+
+// Reads the parameters of a PDU of this kind (0 confirmed request, 1 unconfirmed, 3 complex ack, 5 error) and choice.
+pub fn read(kind: u8, choice: u8, s: &[u8]) -> Answer
+    ensures { λ r. ⌜ r ≡ readService kind choice (now (s .entry)) ⌝ }
+{
+    let c = items::count(s);
+    match c {
+        Tally::Items(_) => layout(kind, choice, s),
+        Tally::Refused(x) => Answer::Refused(x),
+    }
+}
+
+// The layout for the kind and choice, or 43.
+fn layout(kind: u8, choice: u8, s: &[u8]) -> Answer
+    ensures { λ r. ⌜ Answers (now (s .entry)) 0 (layoutFor kind choice (now (s .entry))) r ⌝ }
+{
+    if kind == 0 {
+        return confirmed(choice, s);
+    }
+    if kind == 1 {
+        return unconfirmed(choice, s);
+    }
+    if kind == 3 {
+        if choice == 12 {
+            return property::read_property_ack(s);
+        }
+        return Answer::Refused(43);
+    }
+    if kind == 5 {
+        return error(choice, s);
+    }
+    Answer::Refused(43)
+}
+
+fn confirmed(choice: u8, s: &[u8]) -> Answer
+    ensures { λ r. ⌜ Answers (now (s .entry)) 0 (layoutFor 0 choice (now (s .entry))) r ⌝ }
+{
+    if choice == 12 {
+        return property::read_property(s);
+    }
+    if choice == 15 {
+        return property::write_property(s);
+    }
+    Answer::Refused(43)
+}
+
+fn unconfirmed(choice: u8, s: &[u8]) -> Answer
+    ensures { λ r. ⌜ Answers (now (s .entry)) 0 (layoutFor 1 choice (now (s .entry))) r ⌝ }
+{
+    if choice == 8 {
+        return others::who_is(s);
+    }
+    if choice == 0 {
+        return others::i_am(s);
+    }
+    Answer::Refused(43)
+}
+
+fn error(choice: u8, s: &[u8]) -> Answer
+    ensures { λ r. ⌜ Answers (now (s .entry)) 0 (layoutFor 5 choice (now (s .entry))) r ⌝ }
+{
+    if choice == 12 {
+        return others::error_of(s);
+    }
+    if choice == 15 {
+        return others::error_of(s);
+    }
+    Answer::Refused(43)
 }
