@@ -13,11 +13,11 @@ use Rattle.octets.specs.Has.{Has, has-bound, has-append, has-left, has-right, h
 use Rattle.octets.specs.Exact.{Exactly}
 use Rattle.tags.specs.Types.{longest}
 use Rattle.tags.specs.Head.{headAt}
-use Rattle.tags.specs.Layout.{Thing, Good, encode, Valid, tagOf, tagLength, contentsOf, numberOctets, lengthOctets}
+use Rattle.tags.specs.Layout.{Thing, Good, encode, Valid, tagOf, tagLength}
 use Rattle.tags.specs.Layout.Thing.{application, boolean, context, opening, closing}
 use Rattle.tags.specs.declared.Tag.{Tag}
 use Rattle.tags.specs.declared.Tag.the-variants.{Item, Opening, Closing, Refused}
-use Rattle.tags.proofs.Exact.{encode-length, encode-some, head-complete, head-sound}
+use Rattle.tags.proofs.Exact.{encode-length, encode-some, contents-stand, head-complete, head-sound}
 use Rattle.items.specs.Records.{Rec, thingOf, thingsOf}
 use Rattle.items.specs.Reading.{Out, more, ending, closes, step, walk, itemsOf, mostItems, deepest}
 use Rattle.items.specs.Reading.Out.{good, bad}
@@ -179,17 +179,6 @@ module _ (s : List ℕ) (os : Octets s) where
       (λ _ e. found-here k at groups rs end (sound k) e)
 
 -- The items that the records name are those that stand there.
-contents-stand : (s : List ℕ) (at : ℕ) (t : Thing) → Has s at (encode t) → Has s (at + tagLength t) (contentsOf t)
-unfolding encode tagLength
-contents-stand s at (application n xs) h = let e : at + 1 + length (lengthOctets (length xs)) ≡ at + (1 + length (lengthOctets (length xs))) = omega arith in rw e at (has-right s (at + 1) (lengthOctets (length xs)) xs (h .2))
-contents-stand s at (boolean v) h = h .2
-contents-stand s at (context n xs) h =
-    let a = has-right s (at + 1) (numberOctets n) (lengthOctets (length xs) ++ xs) (h .2) in
-    let e : at + 1 + length (numberOctets n) + length (lengthOctets (length xs)) ≡ at + (1 + length (numberOctets n) + length (lengthOctets (length xs))) = omega arith in
-    rw e at (has-right s (at + 1 + length (numberOctets n)) (lengthOctets (length xs)) xs a)
-contents-stand s at (opening n) h = let e : at + 1 + length (numberOctets n) ≡ at + (1 + length (numberOctets n)) = omega arith in omega (arith, has-bound s (at + 1) (numberOctets n) (h .2))
-contents-stand s at (closing n) h = let e : at + 1 + length (numberOctets n) ≡ at + (1 + length (numberOctets n)) = omega arith in omega (arith, has-bound s (at + 1) (numberOctets n) (h .2))
-
 thing-named : (s : List ℕ) (at d : ℕ) (t : Thing) → Valid t → Has s at (encode t) → thingOf s (recordOf at d t) ≡ t
 unfolding thingOf recordOf
 thing-named s at d (application n xs) v h = rw (ne-eqb n 1 (v .other), has-cut s (at + tagLength (application n xs)) xs (contents-stand s at (application n xs) h))

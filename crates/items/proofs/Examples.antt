@@ -1,10 +1,11 @@
 -- Document 01's worked items, by computation.
-use Prim.Native.Nat.{_+_, _^_}
 use mathlib.Core.Path.{_≡_, refl}
 use mathlib.Core.List.{[], _∷_}
 use Rattle.octets.specs.Numbers.{valueAt}
 use Rattle.tags.specs.Types.{least, most}
 use Rattle.tags.specs.Head.{headAt, numberAt, lengthAt, twoAt, fourAt, firstRule, firstContent, contentsAt, wholeAt, signBad, signedAt, contextAt, applicationAt}
+use Rattle.tags.specs.Signed.{signedValue}
+use Rattle.tags.specs.Signed.Whole.{minus}
 use Rattle.items.specs.Records.{rec}
 use Rattle.items.specs.Reading.{more, ending, closes, step, walk, itemsOf}
 use Rattle.items.specs.Reading.Out.{good, bad}
@@ -15,8 +16,7 @@ pub record Worked : Type 0 where
   pub boolean : itemsOf (0x11 ∷ []) ≡ good (rec 0 1 0 1 1 0 ∷ []) 1
   pub long-unsigned : itemsOf (0x22 ∷ 0x00 ∷ 0x05 ∷ []) ≡ bad 34
   pub signed : itemsOf (0x32 ∷ 0xFF ∷ 0x7F ∷ []) ≡ good (rec 0 3 0 0 1 2 ∷ []) 3
-  -- its contents are -129 in two's complement
-  pub signed-value : valueAt (0x32 ∷ 0xFF ∷ 0x7F ∷ []) 1 2 + 129 ≡ 256 ^ 2
+  pub signed-value : signedValue (0x32 ∷ 0xFF ∷ 0x7F ∷ []) 1 2 ≡ minus 129
   pub long-signed : itemsOf (0x32 ∷ 0xFF ∷ 0x80 ∷ []) ≡ bad 34
   pub other-number : itemsOf (0x3E ∷ 0x4F ∷ []) ≡ bad 35
   pub left-open : itemsOf (0x3E ∷ []) ≡ bad 36
@@ -26,7 +26,7 @@ pub record Worked : Type 0 where
   pub early-signed : itemsOf (0x32 ∷ 0xFF ∷ []) ≡ bad 30
 
 pub worked : Worked
-unfolding itemsOf walk step closes ending more headAt numberAt lengthAt twoAt fourAt firstRule firstContent contentsAt wholeAt signBad signedAt contextAt applicationAt least most valueAt
+unfolding itemsOf walk step closes ending more headAt numberAt lengthAt twoAt fourAt firstRule firstContent contentsAt wholeAt signBad signedAt contextAt applicationAt least most signedValue valueAt
 worked =
     record {
       none = refl;

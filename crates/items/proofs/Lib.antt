@@ -6,4 +6,7 @@ pub mod Listing
 pub mod Left
 pub mod Exact
 pub mod Back
+pub mod HeadFront
+pub mod HeadMoved
+pub mod LeftToRight
 pub mod Examples

@@ -24,6 +24,7 @@ pub fn put(
     out[at + 1] = number;
     out[at + 2] = depth;
     out[at + 3] = value;
+    // Four octets each: all that a place or a length within 16,384 octets has.
     octets::put_four(out, at + 4, (place % 4294967296) as u32);
     octets::put_four(out, at + 8, (len % 4294967296) as u32);
 }

@@ -1,13 +1,13 @@
 -- A good head lies within the octets: its contents begin after the tag and end before the octets do, and its values are small.
-use Prim.Native.Nat.{ℕ, _+_, _-_, _*_, _/_, _%_, _≤_, _<_}
+use Prim.Native.Nat.{ℕ, _+_, _-_, _/_, _%_, _≤_, _<_}
 use native.Mathlib.Omega.{arith}
 use mathlib.Core.Path.{_≡_, refl, _∙_}
 use mathlib.Core.List.{List}
-use mathlib.Core.Bool.{Bool, true, false}
+use mathlib.Core.Bool.{false}
 use lib.ListN.{length}
 use lib.Dec.{ltb, leb, eqb}
 use borrow.Author.Tests.{ltb-true, ltb-false, leb-false, eqb-true, eqb-false, ne-eqb, le-ltb}
-use Rattle.octets.specs.Choice.{pick, pick-cases, by-test}
+use Rattle.octets.specs.Choice.{pick-cases, by-test}
 use Rattle.octets.specs.Reading.{oct, be16}
 use Rattle.tags.specs.Types.{longest, least, most}
 use Rattle.tags.specs.Head.{andThen, numberAt, twoAt, fourAt, lengthAt, firstRule, firstContent, contentsAt, wholeAt, signBad, signedAt, contextAt, applicationAt, headAt}

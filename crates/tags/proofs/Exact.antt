@@ -1,26 +1,23 @@
 -- One head is read exactly where an item that keeps the rules stands.
 use Prim.Native.Nat.{ℕ, zero, suc, _+_, _-_, _*_, _/_, _%_, _≤_, _<_}
 use native.Mathlib.Omega.{arith}
-use native.Mathlib.Nat.{add-assoc}
 use mathlib.Core.Path.{_≡_, refl, sym, ap, _∙_}
 use mathlib.Core.List.{List, [], _∷_, _++_}
 use mathlib.Core.Bool.{Bool, true, false}
-use lib.ListN.{length, take, drop, getD, length-append, length-take, length-drop}
+use lib.ListN.{length, take, drop, getD, length-append, length-drop}
 use lib.Seq.{length-take-le}
 use lib.Dec.{ltb, leb, eqb}
-use borrow.Author.Tests.{ltb-true, ltb-false, leb-true, leb-false, eqb-true, eqb-false, lt-ltb, le-ltb, lt-leb, eq-eqb, ne-eqb}
-use Rattle.octets.specs.Choice.{pick, pick-cases, by-test, both}
+use borrow.Author.Tests.{ltb-true, ltb-false, leb-true, eqb-true, eqb-false, lt-ltb, le-ltb, lt-leb, eq-eqb, ne-eqb}
+use Rattle.octets.specs.Choice.{pick-cases, by-test, both}
 use Rattle.octets.specs.Reading.{oct, Octets}
 use Rattle.octets.specs.Has.{Has, has-bound, has-append, has-left, has-right, has-take}
 use Rattle.tags.specs.Types.{longest, least, most}
-use Rattle.tags.specs.Head.{andThen, numberAt, lengthAt, firstRule, contentsAt, contextAt, applicationAt, headAt}
+use Rattle.tags.specs.Head.{numberAt, lengthAt, firstRule, contentsAt, contextAt, applicationAt, headAt}
 use Rattle.tags.specs.Layout.{Thing, highBits, numberOctets, lowBits, lengthOctets, encode, Application, Valid, goodContents, tagLength, contentsOf, tagOf, Good, Stands}
 use Rattle.tags.specs.Layout.Thing.{application, boolean, context, opening, closing}
 use Rattle.tags.specs.Decide.{both-true}
-use Rattle.tags.specs.declared.Field.{Field}
-use Rattle.tags.specs.declared.Field.the-variants.{Is, Bad}
 use Rattle.tags.specs.declared.Tag.{Tag}
-use Rattle.tags.specs.declared.Tag.the-variants.{Item, Opening, Closing, Refused}
+use Rattle.tags.specs.declared.Tag.the-variants.{Item, Opening, Closing}
 use Rattle.tags.proofs.Bounds.{and-then, contents-in, first-bits, boolean-bits}
 use Rattle.tags.proofs.Spelling.{NumberHas, LengthHas, NumberStands, LengthStands, number-complete, number-sound, length-complete, length-sound}
 use Rattle.tags.proofs.Rule.{contents-exact}
@@ -42,6 +39,28 @@ encode-some (boolean v) = omega arith
 encode-some (context n xs) = omega arith
 encode-some (opening n) = omega arith
 encode-some (closing n) = omega arith
+
+-- where the octets of an item stand, its contents stand after its tag
+pub contents-stand : (s : List ℕ) (at : ℕ) (t : Thing) → Has s at (encode t) → Has s (at + tagLength t) (contentsOf t)
+unfolding encode tagLength
+contents-stand s at (application n xs) h =
+    let e : at + (1 + length (lengthOctets (length xs))) ≡ at + 1 + length (lengthOctets (length xs)) = omega arith in
+    rw e (has-right s (at + 1) (lengthOctets (length xs)) xs (h .2))
+contents-stand s at (boolean v) h = h .2
+contents-stand s at (context n xs) h =
+    let e : at + (1 + length (numberOctets n) + length (lengthOctets (length xs))) ≡ at + 1 + length (numberOctets n) + length (lengthOctets (length xs)) = omega arith in
+    rw e (has-right s (at + 1 + length (numberOctets n)) (lengthOctets (length xs)) xs (has-right s (at + 1) (numberOctets n) (lengthOctets (length xs) ++ xs) (h .2)))
+contents-stand s at (opening n) h = omega (arith, has-bound s (at + 1) (numberOctets n) (h .2))
+contents-stand s at (closing n) h = omega (arith, has-bound s (at + 1) (numberOctets n) (h .2))
+
+-- an item's tag is no refusal
+pub tag-good : (at : ℕ) (t : Thing) → Good (tagOf at t)
+unfolding tagOf
+tag-good at (application n xs) = tt
+tag-good at (boolean v) = tt
+tag-good at (context n xs) = tt
+tag-good at (opening n) = tt
+tag-good at (closing n) = tt
 
 pub low-small : (l : ℕ) → lowBits l ≤ 5
 unfolding lowBits

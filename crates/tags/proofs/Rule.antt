@@ -1,17 +1,17 @@
 -- The contents rule that the reader judges octet by octet is the one that the layout states of the whole contents.
-use Prim.Native.Nat.{ℕ, suc, _+_, _-_, _≤_, _<_}
+use Prim.Native.Nat.{ℕ, suc, _+_, _-_, _≤_}
 use native.Mathlib.Omega.{arith}
 use mathlib.Core.Path.{_≡_, refl, sym, _∙_}
 use mathlib.Core.List.{List, [], _∷_}
 use mathlib.Core.Bool.{Bool, true, false}
 use lib.ListN.{length}
 use lib.Dec.{ltb, leb, eqb}
-use borrow.Author.Tests.{ltb-true, ltb-false, leb-true, leb-false, eqb-true, eqb-false, lt-ltb, le-ltb, le-leb, lt-leb, eq-eqb, ne-eqb}
+use borrow.Author.Tests.{ltb-true, ltb-false, eqb-true, eqb-false, lt-ltb, le-ltb, le-leb, lt-leb, ne-eqb}
 use Rattle.octets.specs.Choice.{pick, pick-same, by-test, both, non}
 use Rattle.octets.specs.Has.{Has, has-bound}
 use Rattle.tags.specs.Types.{least}
 use Rattle.tags.specs.Head.{firstContent, wholeAt, signBad, signedAt, contentsAt}
-use Rattle.tags.specs.Layout.{shortUnsigned, shortSigned, goodCharacters, goodBits, goodContents}
+use Rattle.tags.specs.Layout.{goodContents}
 
 -- contents that stand there are all there
 whole-none : (s : List ℕ) (p : ℕ) (xs : List ℕ) → Has s p xs → wholeAt s p (length xs) ≡ 0
@@ -61,7 +61,7 @@ one-exact n x =
         rw (lt-ltb 0 x (omega (arith, eqb-false x 0 e)), pick-same {A = ℕ} (ltb 7 x) 34, e))
 
 -- the sign rule of two octets
-sign-exact : (x y : ℕ) → non (signBad x y) ≡ both (non (both (eqb x 0) (ltb y 128))) (non (both (eqb x 255) (leb 128 y)))
+pub sign-exact : (x y : ℕ) → non (signBad x y) ≡ both (non (both (eqb x 0) (ltb y 128))) (non (both (eqb x 255) (leb 128 y)))
 unfolding signBad
 sign-exact x y =
     by-test (eqb x 0) (λ e. rw (eqb-true x 0 e) (by-test (ltb y 128) (λ d. rw d) (λ d. rw d))) (λ e.

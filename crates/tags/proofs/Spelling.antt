@@ -3,11 +3,11 @@ use Prim.Native.Nat.{ℕ, _+_, _-_, _*_, _/_, _%_, _≤_, _<_}
 use native.Mathlib.Omega.{arith}
 use mathlib.Core.Path.{_≡_, refl}
 use mathlib.Core.List.{List, [], _∷_}
-use mathlib.Core.Bool.{Bool, true, false}
+use mathlib.Core.Bool.{true, false}
 use lib.ListN.{length}
 use lib.Dec.{ltb, leb, eqb}
-use borrow.Author.Tests.{ltb-true, ltb-false, leb-false, eqb-true, lt-ltb, le-ltb, lt-leb}
-use Rattle.octets.specs.Choice.{pick, pick-cases, by-test}
+use borrow.Author.Tests.{ltb-true, ltb-false, leb-false, eqb-true, le-ltb, lt-leb}
+use Rattle.octets.specs.Choice.{pick-cases, by-test}
 use Rattle.octets.specs.Reading.{oct, be16, Octets}
 use Rattle.octets.specs.Has.{Has}
 use Rattle.tags.specs.Types.{longest}

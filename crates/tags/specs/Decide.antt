@@ -1,15 +1,12 @@
 -- The rules of an item as a test: it holds exactly for the items that there are.
-use Prim.Native.Nat.{ℕ, _≤_}
-use native.Mathlib.Omega.{arith}
 use mathlib.Core.Path.{_≡_, refl}
-use mathlib.Core.List.{List}
 use mathlib.Core.Bool.{Bool, true, false}
 use lib.ListN.{length}
 use lib.Dec.{leb, eqb}
-use borrow.Author.Tests.{leb-true, le-leb, eqb-true, eq-eqb, eqb-false, ne-eqb}
+use borrow.Author.Tests.{leb-true, le-leb, eqb-false, ne-eqb}
 use Rattle.octets.specs.Choice.{both, non}
 use Rattle.tags.specs.Types.{longest, least, most}
-use Rattle.tags.specs.Layout.{Thing, Valid, Application, goodContents}
+use Rattle.tags.specs.Layout.{Thing, Valid, goodContents}
 use Rattle.tags.specs.Layout.Thing.{application, boolean, context, opening, closing}
 
 unfoldable pub validThing : Thing → Bool

@@ -1,7 +1,7 @@
 -- The reading of one item at a place: "Octets are judged left to right and a missing octet when it is reached; within one, by row order."
-use Prim.Native.Nat.{ℕ, _+_, _-_, _*_, _/_, _%_}
+use Prim.Native.Nat.{ℕ, _+_, _-_, _/_, _%_}
 use mathlib.Core.List.{List}
-use mathlib.Core.Bool.{Bool, true, false}
+use mathlib.Core.Bool.{Bool, false}
 use lib.ListN.{length}
 use lib.Dec.{ltb, leb, eqb}
 use Rattle.octets.specs.Choice.{pick}
@@ -55,8 +55,8 @@ firstRule b =
     (pick (ltb 5 (b % 8)) 32
     (pick (eqb (b / 16) 1) (pick (ltb 1 (b % 8)) 32 0) 0))))
 
--- what the first contents octet a breaks: "characters, first is set 0 to 5"; "bits, first is unused count 0 to 7, and 0 if alone";
--- "unsigned and enumerated, first not 00 if more than one"
+-- what the first contents octet a breaks: "7 characters, .. first is set 0 to 5"; "8 bits, .. first is unused count 0 to 7, and 0 if alone";
+-- "2 unsigned and 9 enumerated, .. first not 00 if more than one"
 unfoldable pub firstContent : ℕ → ℕ → ℕ → ℕ
 firstContent n len a =
     pick (eqb n 7) (pick (ltb 5 a) 34 0)

@@ -2,3 +2,4 @@ pub mod Types
 pub mod Head
 pub mod Layout
 pub mod Decide
+pub mod Signed

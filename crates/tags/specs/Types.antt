@@ -3,7 +3,7 @@ use Prim.Native.Nat.{ℕ}
 use mathlib.Core.List.{[], _∷_}
 use lib.ListN.{getD}
 
--- "At most .. 16,384 octets"
+-- 33: "contents length wrong for its type, or over 16,384"
 abbrev pub longest : ℕ
 longest = 16384
 

@@ -1,5 +1,4 @@
 use borrow.Author.Needs.{needs}
-use Rattle.octets.specs.Rules.{tests}
 use Rattle.tags.specs.Types.{most}
 use Rattle.tags.proofs.contents.high.Statement.{statement}
 use Rattle.tags.proofs.contents.high.Tie as tie

@@ -1,5 +1,4 @@
 use borrow.Author.Needs.{needs}
-use Rattle.octets.specs.Rules.{tests}
 use Rattle.tags.specs.Types.{least}
 use Rattle.tags.proofs.contents.low.Statement.{statement}
 use Rattle.tags.proofs.contents.low.Tie as tie
