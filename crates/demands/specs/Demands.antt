@@ -33,6 +33,8 @@ use Rattle.items.specs.Grammar as Items
 use Rattle.items.specs.Records.{thingsOf}
 use Rattle.items.specs.Listing.{Listed}
 use Rattle.items.specs.declared.Tally.{Tally}
+use Rattle.services.specs.Shows as Services
+use Rattle.services.specs.Layout as ServiceLayout
 use Rattle.item_judge.specs.Judge.{writeFault, recordsIn}
 use Rattle.item_judge.specs.Meaning.{ReadingOf, Writable}
 use mathlib.Core.Bool.{true, false}
@@ -134,6 +136,11 @@ ItemsWriteBack = (o lent listed : List ℕ) (n : ℕ) → Octets o → Listed o 
 abbrev pub ItemsReadBack : Type 0
 ItemsReadBack = (area source out : List ℕ) (n : ℕ) (later : List ℕ) → Octets source
     → Laid (writeFault area source) (Items.encodeAll (thingsOf source (recordsIn area))) out (Wrote n) later → ReadingOf source (recordsIn area) (take n later)
+
+-- the services: for every kind of PDU and choice, octets are read as a service that shows this message exactly when the message is of that kind and choice,
+-- keeps its rules, and the octets are its layout
+abbrev pub ServicesExact : Type 0
+ServicesExact = (kind choice : ℕ) → Exactly (Services.Shows kind choice) (Services.ValidFor kind choice) ServiceLayout.encode
 
 -- ---- DEMAND 3. "From one state that refusal 59 passes and one message area, fix one run of trunk octets with silences and forget orders at fixed places. Cut the
 -- octets anywhere, offer the rest again after each report, lend areas of the right sizes that nobody else writes. Then reports, final state and message area are
