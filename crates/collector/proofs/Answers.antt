@@ -25,7 +25,7 @@ use Rattle.recordings.specs.Frames.{rules}
 use Rattle.collector.specs.Report.{damaged}
 use Rattle.collector.specs.Frame.{contentOf, bacnet}
 use Rattle.collector.specs.Acting.{acting, Acted}
-use Rattle.collector.specs.Calls.{passing, slotsOf, sound, Answered, feedRefusal, feeding, Tells, Feeds, silenceRefusal, stilling, Falls, Stills, Forgets}
+use Rattle.collector.specs.Calls.{passing, slotsOf, sound, Answered, feedRefusal, feeding, Tells, Feeds, unfedBy, silenceRefusal, stilling, Falls, Stills, quietBy, Forgets}
 use Rattle.collector.specs.declared.Collector.{Collector}
 use Rattle.collector.specs.declared.Fed.{Fed}
 use Rattle.collector.specs.declared.Fell.{Fell}
@@ -49,7 +49,7 @@ slots-pass c n e = ap (λ (b : Bool). pick (both (soundOf (c .receiver)) b) n 59
 
 -- ---- feeding
 
-tells-not : (n : ℕ) (c : Collector) (report area : List ℕ) → Tells n (unmoved (c .receiver) (slotsOf c) area) report (record { refused = n; eaten = 0; reported = false; state = c }) report area
+tells-not : (n : ℕ) (c : Collector) (report area : List ℕ) → Tells n (unmoved (c .receiver) (slotsOf c) area) report (unfedBy n c) report area
 tells-not n c report area = record { refused = refl; eaten = refl; reported = refl; receiver = refl; slots = refl; reportAfter = refl; areaAfter = refl }
 
 module _ (c : Collector) (report area piece : List ℕ) where
@@ -57,17 +57,17 @@ module _ (c : Collector) (report area piece : List ℕ) where
       → Feeds c report area piece r report′ area′
   tells-by e q h = rw (e, q) h
 
-  pub feeds-line : (length report ≡ 16 → ⊥) → Feeds c report area piece (record { refused = 60; eaten = 0; reported = false; state = c }) report area
+  pub feeds-line : (length report ≡ 16 → ⊥) → Feeds c report area piece (unfedBy 60 c) report area
   unfolding feedRefusal feeding
   feeds-line h = tells-by (rw (ne-eqb (length report) 16 h)) (rw (ne-eqb (length report) 16 h)) (tells-not 60 c report area)
 
-  pub feeds-area : length report ≡ 16 → (length area ≡ 65536 → ⊥) → Feeds c report area piece (record { refused = 60; eaten = 0; reported = false; state = c }) report area
+  pub feeds-area : length report ≡ 16 → (length area ≡ 65536 → ⊥) → Feeds c report area piece (unfedBy 60 c) report area
   unfolding feedRefusal feeding
   feeds-area k h =
       tells-by (rw (eq-eqb (length report) 16 k, ne-eqb (length area) 65536 h)) (rw (eq-eqb (length report) 16 k, ne-eqb (length area) 65536 h)) (tells-not 60 c report area)
 
   module _ (k : length report ≡ 16) (z : length area ≡ 65536) where
-    pub feeds-slots : passing (slotsOf c) ≡ false → Feeds c report area piece (record { refused = 59; eaten = 0; reported = false; state = c }) report area
+    pub feeds-slots : passing (slotsOf c) ≡ false → Feeds c report area piece (unfedBy 59 c) report area
     unfolding feedRefusal feeding
     feeds-slots e =
         tells-by (rw (eq-eqb (length report) 16 k, eq-eqb (length area) 65536 z) (slots-59 c 0 e)) (rw (eq-eqb (length report) 16 k, eq-eqb (length area) 65536 z, e)) (tells-not 59 c report area)
@@ -137,14 +137,14 @@ module _ (c : Collector) (report : List ℕ) where
   falls-by : {n : ℕ} {d : Answered} {r : Fell} {report′ : List ℕ} → silenceRefusal c report ≡ n → stilling c report [] ≡ d → Falls n d report r report′ → Stills c report r report′
   falls-by e q h = rw (e, q) h
 
-  falls-not : (n : ℕ) → Falls n (unmoved (c .receiver) (slotsOf c) []) report (record { refused = n; reported = false; state = c }) report
+  falls-not : (n : ℕ) → Falls n (unmoved (c .receiver) (slotsOf c) []) report (quietBy n c) report
   falls-not n = record { refused = refl; reported = refl; receiver = refl; slots = refl; reportAfter = refl }
 
-  pub stills-line : (length report ≡ 16 → ⊥) → Stills c report (record { refused = 60; reported = false; state = c }) report
+  pub stills-line : (length report ≡ 16 → ⊥) → Stills c report (quietBy 60 c) report
   unfolding silenceRefusal stilling
   stills-line h = falls-by (rw (ne-eqb (length report) 16 h)) (rw (ne-eqb (length report) 16 h)) (falls-not 60)
 
-  pub stills-slots : length report ≡ 16 → passing (slotsOf c) ≡ false → Stills c report (record { refused = 59; reported = false; state = c }) report
+  pub stills-slots : length report ≡ 16 → passing (slotsOf c) ≡ false → Stills c report (quietBy 59 c) report
   unfolding silenceRefusal stilling
   stills-slots k e = falls-by (rw (eq-eqb (length report) 16 k) (slots-59 c 0 e)) (rw (eq-eqb (length report) 16 k, e)) (falls-not 59)
 
@@ -159,10 +159,10 @@ module _ (c : Collector) (report : List ℕ) where
       falls-by n d h
 
 module _ (f : Still) (s : Slots) (report : List ℕ) where
-  pub falls-quiet : f .outcome ≡ Quiet → Falls (f .refused) (stilled damaged (view s) [] f) report (record { refused = f .refused; reported = false; state = record { receiver = f .receiver; slots = s } }) report
+  pub falls-quiet : f .outcome ≡ Quiet → Falls (f .refused) (stilled damaged (view s) [] f) report (quietBy (f .refused) (record { receiver = f .receiver; slots = s })) report
   falls-quiet e = rw e (record { refused = refl; reported = refl; receiver = refl; slots = refl; reportAfter = refl })
 
-  pub falls-frame : f .outcome ≡ Frame → Falls (f .refused) (stilled damaged (view s) [] f) report (record { refused = f .refused; reported = false; state = record { receiver = f .receiver; slots = s } }) report
+  pub falls-frame : f .outcome ≡ Frame → Falls (f .refused) (stilled damaged (view s) [] f) report (quietBy (f .refused) (record { receiver = f .receiver; slots = s })) report
   falls-frame e = rw e (record { refused = refl; reported = refl; receiver = refl; slots = refl; reportAfter = refl })
 
   pub falls-damage : (n : ℕ) {report′ : List ℕ} → f .outcome ≡ Damage n → report′ ≡ damaged n

@@ -2,3 +2,4 @@ pub mod Report
 pub mod Frame
 pub mod Acting
 pub mod Calls
+pub mod Offering

@@ -6,7 +6,7 @@ use frames::Outcome;
 use frames::Receiver;
 use rebuild::Slots;
 ghost use mathlib.Core.Path.{_≡_};
-ghost use Rattle.collector.specs.Calls.{freshCollector, Feeds, Stills, Forgets};
+ghost use Rattle.collector.specs.Calls.{freshCollector, unfedBy, quietBy, Feeds, Stills, Forgets};
 
 // The state that one trunk has.
 pub struct Collector {
@@ -48,51 +48,50 @@ impl Collector {
         Collector::FRESH
     }
 
+    // A refused piece: nothing eaten, nothing changed.
+    fn unfed(self, number: u8) -> Fed
+        ensures { λ r. ⌜ r ≡ unfedBy number self ⌝ }
+    {
+        Fed {
+            refused: number,
+            eaten: 0,
+            reported: false,
+            state: self,
+        }
+    }
+
     // Eats octets through the first that causes a report, else all.
     pub fn feed(self, piece: &[u8], report: &mut [u8], area: &mut [u8]) -> Fed
         ensures { λ r. ⌜ Feeds self (now (report .entry)) (now (area .entry)) (now (piece .entry)) r (now (report .exit)) (now (area .exit)) ⌝ }
     {
         if report.len() != 16 {
-            return Fed {
-                refused: 60,
-                eaten: 0,
-                reported: false,
-                state: self,
-            };
+            return self.unfed(60);
         }
         if area.len() != 65536 {
-            return Fed {
-                refused: 60,
-                eaten: 0,
-                reported: false,
-                state: self,
-            };
+            return self.unfed(60);
         }
         let slots = self.slots;
         let fair = rebuild::sound(slots);
         if !fair {
-            return Fed {
-                refused: 59,
-                eaten: 0,
-                reported: false,
-                state: self,
-            };
+            return self.unfed(59);
         }
         let f = self.receiver.feed(piece);
+        let refused = f.refused;
+        let eaten = f.eaten;
         let receiver = f.receiver;
         let ended = f.outcome;
         match ended {
             Outcome::Quiet => Fed {
-                refused: f.refused,
-                eaten: f.eaten,
+                refused,
+                eaten,
                 reported: false,
                 state: Collector { receiver, slots },
             },
             Outcome::Damage(n) => {
                 report::put_damage(report, n);
                 Fed {
-                    refused: f.refused,
-                    eaten: f.eaten,
+                    refused,
+                    eaten,
                     reported: true,
                     state: Collector { receiver, slots },
                 }
@@ -104,12 +103,23 @@ impl Collector {
                 let n = frames::length_of(head) as usize;
                 let slots = frame::act(head, &store[..n], slots, report, area);
                 Fed {
-                    refused: f.refused,
-                    eaten: f.eaten,
+                    refused,
+                    eaten,
                     reported: true,
                     state: Collector { receiver, slots },
                 }
             }
+        }
+    }
+
+    // A silence that reports nothing, or is refused.
+    fn quiet(self, number: u8) -> Fell
+        ensures { λ r. ⌜ r ≡ quietBy number self ⌝ }
+    {
+        Fell {
+            refused: number,
+            reported: false,
+            state: self,
         }
     }
 
@@ -118,22 +128,15 @@ impl Collector {
         ensures { λ r. ⌜ Stills self (now (report .entry)) r (now (report .exit)) ⌝ }
     {
         if report.len() != 16 {
-            return Fell {
-                refused: 60,
-                reported: false,
-                state: self,
-            };
+            return self.quiet(60);
         }
         let slots = self.slots;
         let fair = rebuild::sound(slots);
         if !fair {
-            return Fell {
-                refused: 59,
-                reported: false,
-                state: self,
-            };
+            return self.quiet(59);
         }
         let f = self.receiver.silence();
+        let refused = f.refused;
         let receiver = f.receiver;
         let state = Collector { receiver, slots };
         let ended = f.outcome;
@@ -141,21 +144,13 @@ impl Collector {
             Outcome::Damage(n) => {
                 report::put_damage(report, n);
                 Fell {
-                    refused: f.refused,
+                    refused,
                     reported: true,
                     state,
                 }
             }
-            Outcome::Quiet => Fell {
-                refused: f.refused,
-                reported: false,
-                state,
-            },
-            Outcome::Frame => Fell {
-                refused: f.refused,
-                reported: false,
-                state,
-            },
+            Outcome::Quiet => state.quiet(refused),
+            Outcome::Frame => state.quiet(refused),
         }
     }
 

@@ -1,0 +1,5 @@
+pub mod Parts
+pub mod Reading
+pub mod Layout
+pub mod Places
+pub mod Shows
