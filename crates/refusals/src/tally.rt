@@ -1,0 +1,57 @@
+// A count of cases, and the first that came out wrong.
+
+pub struct Tally {
+    pub cases: u32,
+    pub wrong: u32,
+    pub got: u32,
+    pub want: u32,
+}
+
+impl Tally {
+    pub fn none() -> Tally {
+        Tally {
+            cases: 0,
+            wrong: 0,
+            got: 0,
+            want: 0,
+        }
+    }
+
+    // One more case: what it gave and what it should give.
+    pub fn see(self, got: u32, want: u32) -> Tally {
+        let cases = std::num::wrapping_add_u32(self.cases, 1);
+        if got != want {
+            if self.wrong == 0 {
+                return Tally {
+                    cases,
+                    wrong: cases,
+                    got,
+                    want,
+                };
+            }
+        }
+        Tally {
+            cases,
+            wrong: self.wrong,
+            got: self.got,
+            want: self.want,
+        }
+    }
+
+    pub fn tell(self, name: &[u8]) {
+        trials::text(name);
+        if self.wrong == 0 {
+            trials::text(b": ok, ");
+            trials::number(self.cases);
+            trials::text(b" cases\n");
+            return;
+        }
+        trials::text(b": case ");
+        trials::number(self.wrong);
+        trials::text(b" gives ");
+        trials::number(self.got);
+        trials::text(b", not ");
+        trials::number(self.want);
+        trials::text(b"\n");
+    }
+}
