@@ -1,4 +1,7 @@
 // What the programs that try the library share: text and octets printed, parts of octets, frames made.
+mod cases;
+
+pub use cases::Tally;
 use libc::STDOUT_FILENO;
 
 // Text to standard output.
@@ -81,13 +84,7 @@ pub fn lay_many(out: &mut [u8], at: usize, x: u8, n: usize) -> usize {
 // A frame with both its checks, round data of at most 65,535 octets; how many octets it has.
 pub fn frame(kind: u8, destination: u8, source: u8, data: &[u8], out: &mut [u8]) -> usize {
     let n = data.len() % 65536;
-    let head = [
-        kind,
-        destination,
-        source,
-        (n / 256) as u8,
-        (n % 256) as u8,
-    ];
+    let head = [kind, destination, source, (n / 256) as u8, (n % 256) as u8];
     let check = sums::header_check(&head);
     let p = lay(out, 0, &[0x55, 0xFF]);
     let q = lay(out, p, &head);

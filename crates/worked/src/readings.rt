@@ -1,9 +1,9 @@
 // What the library answers to a message, in words.
+use crate::lines;
 use apdu::Answer;
 use apdu::Pdu;
 use apdu::fields;
 use collector::Collector;
-use crate::lines;
 use items::Tally;
 
 fn refused(n: u8) {

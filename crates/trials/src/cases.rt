@@ -1,4 +1,4 @@
-// A count of cases, and the first that came out wrong.
+// A count of cases, and the first that came out wrong: for programs that compare what they get with what they should.
 
 pub struct Tally {
     pub cases: u32,
@@ -39,19 +39,19 @@ impl Tally {
     }
 
     pub fn tell(self, name: &[u8]) {
-        trials::text(name);
+        crate::text(name);
         if self.wrong == 0 {
-            trials::text(b": ok, ");
-            trials::number(self.cases);
-            trials::text(b" cases\n");
+            crate::text(b": ok, ");
+            crate::number(self.cases);
+            crate::text(b" cases\n");
             return;
         }
-        trials::text(b": case ");
-        trials::number(self.wrong);
-        trials::text(b" gives ");
-        trials::number(self.got);
-        trials::text(b", not ");
-        trials::number(self.want);
-        trials::text(b"\n");
+        crate::text(b": case ");
+        crate::number(self.wrong);
+        crate::text(b" gives ");
+        crate::number(self.got);
+        crate::text(b", not ");
+        crate::number(self.want);
+        crate::text(b"\n");
     }
 }
