@@ -101,11 +101,10 @@ pub fn whole(area: &mut [u8]) -> Tally {
 pub fn lengths(area: &mut [u8]) -> Tally {
     let data = [0u8; 502];
     let mut frame = [0u8; 512];
-    let n = trials::frame(1, 2, 1, trials::part(&data, 0, 501), &mut frame);
-    let t = Trial::fresh().gives(trials::part(&frame, 0, n), 511, frame_of(501), area);
+    let n = trials::frame(1, 2, 1, show::part(&data, 0, 501), &mut frame);
+    let t = Trial::fresh().gives(show::part(&frame, 0, n), 511, frame_of(501), area);
     let m = trials::frame(1, 2, 1, &data, &mut frame);
-    t.gives(trials::part(&frame, 0, m), 8, damaged(2), area)
-        .tally
+    t.gives(show::part(&frame, 0, m), 8, damaged(2), area).tally
 }
 
 // A header check, a length, a data check that are wrong; a silence within a header and within data. What follows is read.
@@ -118,7 +117,7 @@ pub fn damage(area: &mut [u8]) -> Tally {
         .gives(&ack_frame, 29, damaged(3), area)
         .quiet(b"\x55\xFF\x01", area)
         .silence(4)
-        .quiet(trials::part(&ack_frame, 0, 20), area)
+        .quiet(show::part(&ack_frame, 0, 20), area)
         .silence(4)
         .silence(0)
         .gives(&piece, 8, frame_of(0), area)
@@ -145,8 +144,8 @@ pub fn preamble(area: &mut [u8]) -> Tally {
 // The front of a frame is quiet, and the rest gives the report: five cases.
 fn cut(t: Trial, at: usize, area: &mut [u8]) -> Trial {
     let frame = ACK;
-    let rest = trials::part(&frame, at, 29);
-    t.quiet(trials::part(&frame, 0, at), area)
+    let rest = show::part(&frame, at, 29);
+    t.quiet(show::part(&frame, 0, at), area)
         .gives(rest, rest.len(), ack(), area)
 }
 
@@ -165,7 +164,7 @@ pub fn cuts(area: &mut [u8]) -> Tally {
 fn silenced(t: Trial, at: usize, area: &mut [u8]) -> Trial {
     let frame = ACK;
     let want = if at < 2 { 0 } else { 4 };
-    t.quiet(trials::part(&frame, 0, at), area)
+    t.quiet(show::part(&frame, 0, at), area)
         .silence(want)
         .gives(&frame, 29, ack(), area)
 }

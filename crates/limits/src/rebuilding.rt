@@ -149,7 +149,7 @@ pub fn full(area: &mut [u8]) -> Tally {
     let octets = [0u8; 83];
     let t = to_16302(Trial::fresh(), area).segment(
         last(1, 33),
-        trials::part(&octets, 0, 82),
+        show::part(&octets, 0, 82),
         complete(0, 16384),
         area,
     );
@@ -159,7 +159,7 @@ pub fn full(area: &mut [u8]) -> Tally {
     to_16302(u, area)
         .segment(
             more(1, 33),
-            trials::part(&octets, 0, 82),
+            show::part(&octets, 0, 82),
             taken(0, 16384),
             area,
         )

@@ -126,7 +126,7 @@ impl Trial {
     pub fn segment(self, p: Part, octets: &[u8], want: Want, area: &mut [u8]) -> Trial {
         let mut frame = [0u8; 511];
         let n = framed(p, octets, &mut frame);
-        self.gives(trials::part(&frame, 0, n), n, want, area)
+        self.gives(show::part(&frame, 0, n), n, want, area)
     }
 }
 
@@ -140,5 +140,5 @@ fn framed(p: Part, octets: &[u8], out: &mut [u8]) -> usize {
         &[1, 0, first, p.invoke, p.number, 1, p.choice],
     );
     let b = trials::lay(&mut data, a, octets);
-    trials::frame(6, 1, p.source, trials::part(&data, 0, b), out)
+    trials::frame(6, 1, p.source, show::part(&data, 0, b), out)
 }

@@ -78,14 +78,14 @@ pub fn open() -> Tally {
     let mut s = [0u8; 64];
     let n = trials::lay_many(&mut s, 0, 0x3E, 16);
     let m = trials::lay_many(&mut s, n, 0x3F, 16);
-    let sixteen = counted(trials::part(&s, 0, m));
+    let sixteen = counted(show::part(&s, 0, m));
     let a = trials::lay(&mut s, n, b"\x3E");
-    let plain = refused(trials::part(&s, 0, a));
+    let plain = refused(show::part(&s, 0, a));
     let b = trials::lay(&mut s, n, b"\xFE\x0E");
-    let early = refused(trials::part(&s, 0, 17));
-    let low = refused(trials::part(&s, 0, b));
+    let early = refused(show::part(&s, 0, 17));
+    let low = refused(show::part(&s, 0, b));
     let c = trials::lay(&mut s, n, b"\xFE\x0F");
-    let deep = refused(trials::part(&s, 0, c));
+    let deep = refused(show::part(&s, 0, c));
     Tally::none()
         .see(sixteen, 32)
         .see(plain, 37)
@@ -98,12 +98,12 @@ pub fn open() -> Tally {
 pub fn many() -> Tally {
     let mut s = [0u8; 2050];
     let t = Tally::none()
-        .see(counted(trials::part(&s, 0, 2048)), 2048)
-        .see(refused(trials::part(&s, 0, 2049)), 38);
+        .see(counted(show::part(&s, 0, 2048)), 2048)
+        .see(refused(show::part(&s, 0, 2049)), 38);
     let n = trials::lay(&mut s, 2047, b"\x3E");
-    let u = t.see(refused(trials::part(&s, 0, n)), 36);
+    let u = t.see(refused(show::part(&s, 0, n)), 36);
     let m = trials::lay(&mut s, n, b"\xD6");
-    u.see(refused(trials::part(&s, 0, m)), 38)
+    u.see(refused(show::part(&s, 0, m)), 38)
 }
 
 // Of 16,385 parameter octets none is read.
@@ -111,7 +111,7 @@ pub fn long() -> Tally {
     let mut s = [0u8; 16385];
     trials::lay(&mut s, 0, b"\x65\xFE\x3F\xFC");
     Tally::none()
-        .see(counted(trials::part(&s, 0, 16384)), 1)
+        .see(counted(show::part(&s, 0, 16384)), 1)
         .see(refused(&s), 39)
 }
 

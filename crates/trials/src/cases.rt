@@ -39,19 +39,19 @@ impl Tally {
     }
 
     pub fn tell(self, name: &[u8]) {
-        crate::text(name);
+        show::text(name);
         if self.wrong == 0 {
-            crate::text(b": ok, ");
-            crate::number(self.cases);
-            crate::text(b" cases\n");
+            show::text(b": ok, ");
+            show::number(self.cases);
+            show::text(b" cases\n");
             return;
         }
-        crate::text(b": case ");
-        crate::number(self.wrong);
-        crate::text(b" gives ");
-        crate::number(self.got);
-        crate::text(b", not ");
-        crate::number(self.want);
-        crate::text(b"\n");
+        show::text(b": case ");
+        show::number(self.wrong);
+        show::text(b" gives ");
+        show::number(self.got);
+        show::text(b", not ");
+        show::number(self.want);
+        show::text(b"\n");
     }
 }

@@ -11,7 +11,7 @@ fn line_end(s: &[u8], from: usize) -> usize {
 // The line at a place; the place of the next.
 fn one(s: &[u8], from: usize) -> usize {
     let end = line_end(s, from);
-    readings::line(trials::part(s, from, end));
+    readings::line(show::part(s, from, end));
     lines::after(s, end)
 }
 

@@ -7,8 +7,8 @@ use collector::Collector;
 use items::Tally;
 
 fn refused(n: u8) {
-    trials::text(b"refused ");
-    trials::number(octets::wide(n) as u32);
+    show::text(b"refused ");
+    show::number(octets::wide(n) as u32);
 }
 
 // A piece to a fresh collector: its report and what it left over, or what a silence then gives.
@@ -17,33 +17,33 @@ fn collected(piece: &[u8]) {
     let mut area = io::large_buffer();
     let f = Collector::fresh().feed(piece, &mut report, &mut area);
     if f.reported {
-        trials::text(b"report ");
-        trials::row(&report);
+        show::text(b"report ");
+        show::row(&report);
         if f.eaten < piece.len() {
-            trials::text(b", left over ");
-            trials::number((piece.len() - f.eaten) as u32);
+            show::text(b", left over ");
+            show::number((piece.len() - f.eaten) as u32);
         }
         return;
     }
-    trials::text(b"no report, after a silence ");
+    show::text(b"no report, after a silence ");
     f.state.silence(&mut report);
-    trials::row(&report);
+    show::row(&report);
 }
 
 // The data in a frame of type 06 from 03 to 01.
 fn framed(data: &[u8]) {
     let mut frame = [0u8; 520];
     let n = trials::frame(6, 1, 3, data, &mut frame);
-    trials::text(b"; ");
-    collected(trials::part(&frame, 0, n));
+    show::text(b"; ");
+    collected(show::part(&frame, 0, n));
 }
 
 fn service(kind: u8, choice: u8, params: &[u8]) {
     match services::read(kind, choice, params) {
-        services::Answer::Good(_) => trials::text(b"; service ok"),
+        services::Answer::Good(_) => show::text(b"; service ok"),
         services::Answer::Refused(n) => {
-            trials::text(b"; service ");
-            trials::number(n as u32);
+            show::text(b"; service ");
+            show::number(n as u32);
         }
     }
 }
@@ -53,8 +53,8 @@ fn listed(params: &[u8]) -> bool {
     let mut records = io::large_buffer();
     match items::list(params, &mut records) {
         Tally::Items(n) => {
-            trials::text(b"ok; items ");
-            trials::number((n % 65536) as u32);
+            show::text(b"ok; items ");
+            show::number((n % 65536) as u32);
             true
         }
         Tally::Refused(n) => {
@@ -67,14 +67,14 @@ fn listed(params: &[u8]) -> bool {
 // A PDU by its parameters, where its kind has some.
 fn pdu(p: Pdu, a: &[u8]) {
     let kind = fields::kind_of(p);
-    let params = trials::part(a, fields::params_at(p), a.len());
+    let params = show::part(a, fields::params_at(p), a.len());
     match kind {
         0 | 1 | 3 | 5 => {
             if listed(params) {
                 service(kind, fields::choice_of(p), params);
             }
         }
-        _ => trials::text(b"ok"),
+        _ => show::text(b"ok"),
     }
 }
 
@@ -93,29 +93,29 @@ fn read_npdu(o: &[u8]) {
         return;
     }
     if r.head.message {
-        trials::text(b"ok; network message, ");
-        trials::number((trials::part(o, next, o.len()).len() % 65536) as u32);
-        trials::text(b" octets after the type");
+        show::text(b"ok; network message, ");
+        show::number((show::part(o, next, o.len()).len() % 65536) as u32);
+        show::text(b" octets after the type");
         return;
     }
     if o.len() <= next {
-        trials::text(b"ok; header only");
+        show::text(b"ok; header only");
         return;
     }
-    read_apdu(trials::part(o, next, o.len()));
+    read_apdu(show::part(o, next, o.len()));
 }
 
 // The register that a check sum ends at.
 fn header_sum(o: &[u8]) {
-    trials::text(b"ok; register ends at ");
-    trials::octet(sums::header_run(0xFF, o));
+    show::text(b"ok; register ends at ");
+    show::octet(sums::header_run(0xFF, o));
 }
 
 fn data_sum(o: &[u8]) {
     let r = sums::data_run(0xFFFF, o);
-    trials::text(b"ok; register ends at ");
-    trials::octet((r / 256) as u8);
-    trials::octet((r % 256) as u8);
+    show::text(b"ok; register ends at ");
+    show::octet((r / 256) as u8);
+    show::octet((r % 256) as u8);
 }
 
 // An APDU behind a network header without addresses.
@@ -123,7 +123,7 @@ fn apdu_framed(o: &[u8]) {
     let mut data = [0u8; 502];
     let n = trials::lay(&mut data, 0, b"\x01\x00");
     let m = trials::lay(&mut data, n, o);
-    framed(trials::part(&data, 0, m));
+    framed(show::part(&data, 0, m));
 }
 
 // By the layer's first letter and length: mstp, npdu, apdu, items, crc8, crc16.
@@ -160,12 +160,12 @@ pub fn line(s: &[u8]) {
     let tag = lines::next_word(s, 0);
     let layer = lines::next_word(s, tag);
     let hex = lines::next_word(s, layer);
-    let n = lines::octets_of(trials::part(s, hex, s.len()), &mut room);
-    trials::text(trials::part(s, 0, lines::place_of(s, tag, b' ')));
-    trials::text(b": ");
+    let n = lines::octets_of(show::part(s, hex, s.len()), &mut room);
+    show::text(show::part(s, 0, lines::place_of(s, tag, b' ')));
+    show::text(b": ");
     answer(
-        trials::part(s, layer, lines::place_of(s, layer, b' ')),
-        trials::part(&room, 0, n),
+        show::part(s, layer, lines::place_of(s, layer, b' ')),
+        show::part(&room, 0, n),
     );
-    trials::text(b"\n");
+    show::text(b"\n");
 }

@@ -1,8 +1,8 @@
 use borrow.Author.Needs.{needs}
 use lib.ListN.{length}
 use Prim.Native.Nat.{_-_}
-use Rattle.trials.proofs.row.Statement.{statement}
-use Rattle.trials.proofs.row.Tie as tie
+use Rattle.show.proofs.row.Statement.{statement}
+use Rattle.show.proofs.row.Tie as tie
 
 abbrev Inv-loop : tie.InvT-loop
 Inv-loop s i₀ t3 i = Unit {0}
