@@ -33,23 +33,26 @@ fn digit(c: u8) -> u8 {
     (c % 16 + 9) % 16
 }
 
-// The octet at a place.
-fn octet(s: &[u8], at: usize) -> u8 {
+// The octet at a place of the text, laid at a place; the place after it. Nothing at the text's end.
+fn lay_octet(s: &[u8], at: usize, out: &mut [u8], to: usize) -> usize {
     if at < s.len() {
         if at + 1 < s.len() {
-            return digit(s[at]) % 16 * 16 + digit(s[at + 1]) % 16;
+            let x = digit(s[at]) % 16 * 16 + digit(s[at + 1]) % 16;
+            return trials::lay(out, to, &[x]);
         }
     }
-    0
+    to
 }
 
 // The octets that the text is, two digits and a space each; how many there are.
 pub fn octets_of(s: &[u8], out: &mut [u8]) -> usize {
     let mut n = 0;
-    let mut i = 0;
-    while i < s.len() {
-        n = trials::lay(out, n, &[octet(s, i)]);
-        i = next_word(s, i);
+    let mut at = 0;
+    let mut left = s.len();
+    while 0 < left {
+        n = lay_octet(s, at, out, n);
+        at = next_word(s, at);
+        left -= 1;
     }
     n
 }

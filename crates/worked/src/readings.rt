@@ -21,7 +21,7 @@ fn collected(piece: &[u8]) {
         show::row(&report);
         if f.eaten < piece.len() {
             show::text(b", left over ");
-            show::number((piece.len() - f.eaten) as u32);
+            show::number(((piece.len() - f.eaten) % 65536) as u32);
         }
         return;
     }
