@@ -1,14 +1,14 @@
 -- A header that keeps the rules is read as itself, whatever parameters follow.
-use Prim.Native.Nat.{ℕ, _+_, _*_, _/_, _%_, _≤_, _<_}
+use Prim.Native.Nat.{ℕ, _+_, _%_, _<_}
 use native.Mathlib.Omega.{arith}
 use mathlib.Core.Path.{_≡_, refl, sym, _∙_}
 use mathlib.Core.Bool.{Bool, true, false}
 use mathlib.Core.List.{List, [], _∷_, _++_}
 use lib.ListN.{length, length-append}
-use lib.Dec.{eqb, ltb, leb}
+use lib.Dec.{leb}
 use native.Mathlib.Nat.{zero-add}
 use borrow.Author.Tests.{le-ltb, lt-leb, ne-eqb}
-use Rattle.octets.specs.Choice.{pick, given}
+use Rattle.octets.specs.Choice.{given}
 use Rattle.octets.specs.Reading.{oct}
 use Rattle.octets.specs.Has.{Has, all-has, has-left, has-right}
 use Rattle.apdu.specs.declared.Segment.{Segment}
@@ -22,12 +22,11 @@ use Rattle.apdu.specs.declared.ErrorPdu.{ErrorPdu}
 use Rattle.apdu.specs.declared.RejectPdu.{RejectPdu}
 use Rattle.apdu.specs.declared.Pdu.{Pdu}
 use Rattle.apdu.specs.declared.Pdu.the-variants.{Request, Unconfirmed, SimpleAck, ComplexAck, SegmentAck, Error, Reject, Abort}
-use Rattle.apdu.specs.declared.Answer.{Answer}
-use Rattle.apdu.specs.declared.Answer.the-variants.{Good, Refused}
+use Rattle.apdu.specs.declared.Answer.the-variants.{Good}
 use Rattle.apdu.specs.declared.kinds.Tail.the-variants.{Part}
-use Rattle.apdu.specs.Reading.{readApdu, readTail, readRequest, readUnconfirmed, readSimpleAck, readComplexAck, readSegmentAck, readError, readReject, readAbort, bit3, bit2, bit1, bit0, lonelyMor}
-use Rattle.apdu.specs.Layout.{flag, firstOctet, tail, header, Window, SegmentRules, Rules, Follows}
-use Rattle.apdu.specs.FirstOctet.{parts-of, below3, below2, below1, below0, not-lonely}
+use Rattle.apdu.specs.Reading.{readApdu, readTail, readRequest, readUnconfirmed, readSimpleAck, readComplexAck, readSegmentAck, readError, readReject, readAbort, bit3, bit2}
+use Rattle.apdu.specs.Layout.{segment, flag, firstOctet, tail, header, SegmentRules, Rules, Follows}
+use Rattle.apdu.specs.FirstOctet.{parts-of, below3, below2, below1, below0, mor-with-seg}
 
 -- the octets of o are there, whatever follows
 there : (o t : List ℕ) (k : ℕ) → k < length o → leb (length (o ++ t)) k ≡ false
@@ -40,9 +39,6 @@ after a b t =
     let h : Has s (0 + length a) (b ++ t) = has-right s 0 a (b ++ t) (all-has s) in
     let k : Has s (length a) (b ++ t) = rw zero-add at h in
     has-left s (length a) b t (rw length-append (omega arith)) k
-
-abbrev segment : Bool → Bool → ℕ → ℕ → Segment
-segment seg mor number window = record { seg = seg; mor = mor; number = number; window = window }
 
 tail-at : (s : List ℕ) (at : ℕ) (seg mor : Bool) (number window choice : ℕ) → SegmentRules (segment seg mor number window) → bit3 (oct s 0) ≡ seg → bit2 (oct s 0) ≡ mor
     → Has s at (tail (segment seg mor number window) choice) → readTail s at ≡ Part (segment seg mor number window) choice
@@ -72,7 +68,7 @@ request p t r =
       there front (tail g (p .choice) ++ t) 2 (omega arith),
       f .kind,
       le-ltb 0 (x % 2) (omega (arith, below0 x (f .last))),
-      not-lonely x (λ m. f .third ∙ r .1 .more (sym (f .second) ∙ m)),
+      mor-with-seg x (λ m. f .third ∙ r .1 .more (sym (f .second) ∙ m)),
       le-ltb 15 (p .size) (omega arith),
       le-ltb 5 (p .size) (r .0),
       f .first,
@@ -100,7 +96,7 @@ complex-ack p t r =
       there front (tail g (p .choice) ++ t) 1 (omega arith),
       f .kind,
       le-ltb 0 (x % 4) (omega (arith, below1 x (f .first), below0 x (f .last))),
-      not-lonely x (λ m. f .third ∙ r .more (sym (f .second) ∙ m)),
+      mor-with-seg x (λ m. f .third ∙ r .more (sym (f .second) ∙ m)),
       tail-back s 2 g (p .choice) r (f .third) (f .second) (after front (tail g (p .choice)) t),
     )
 
@@ -118,9 +114,9 @@ segment-ack p w =
       le-ltb 127 (p .window) (w .1),
     )
 
-failed : (p : ErrorPdu) (t : List ℕ) → readApdu (header (Error p) ++ t) ≡ Good (Error p)
+error : (p : ErrorPdu) (t : List ℕ) → readApdu (header (Error p) ++ t) ≡ Good (Error p)
 unfolding readApdu readError firstOctet flag given
-failed p t = let o = header (Error p) in simp (there o t 0 (omega arith), there o t 2 (omega arith))
+error p t = let o = header (Error p) in simp (there o t 0 (omega arith), there o t 2 (omega arith))
 
 reject : (p : RejectPdu) → readApdu (header (Reject p)) ≡ Good (Reject p)
 unfolding readApdu readReject firstOctet flag given
@@ -140,6 +136,6 @@ reads-back (Unconfirmed p) t r e = unconfirmed p t
 reads-back (SimpleAck p) t r e = rw e (simple-ack p)
 reads-back (ComplexAck p) t r e = complex-ack p t r
 reads-back (SegmentAck p) t r e = rw e (segment-ack p r)
-reads-back (Error p) t r e = failed p t
+reads-back (Error p) t r e = error p t
 reads-back (Reject p) t r e = rw e (reject p)
 reads-back (Abort p) t r e = rw e (abort p)

@@ -1,6 +1,6 @@
 -- What every kind of PDU can be asked: 0 and no segment where the kind has no such field.
 use Prim.Native.Nat.{ℕ, _+_}
-use mathlib.Core.Bool.{Bool, true, false}
+use mathlib.Core.Bool.{Bool, false}
 use Rattle.octets.specs.Choice.{given}
 use Rattle.apdu.specs.declared.Segment.{Segment}
 use Rattle.apdu.specs.declared.Pdu.{Pdu}

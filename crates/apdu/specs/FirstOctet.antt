@@ -1,12 +1,12 @@
 -- Laws of the first octet: its parts are what it was made of, and it is made of its parts.
-use Prim.Native.Nat.{ℕ, zero, suc, _+_, _*_, _/_, _%_, _≤_, _<_}
+use Prim.Native.Nat.{ℕ, zero, suc, _/_, _%_, _≤_, _<_}
 use native.Mathlib.Omega.{arith}
 use mathlib.Core.Path.{_≡_, refl}
 use mathlib.Core.Bool.{Bool, true, false}
 use lib.Dec.{eqb}
 use borrow.Author.Tests.{eq-eqb, ne-eqb, eqb-true, eqb-false}
 use Rattle.octets.specs.Choice.{given}
-use Rattle.apdu.specs.Reading.{bit3, bit2, bit1, bit0, lonelyMor}
+use Rattle.apdu.specs.Reading.{bit3, bit2, bit1, bit0, morWithoutSeg}
 use Rattle.apdu.specs.Layout.{flag, firstOctet}
 
 -- the type and the low bits 3 to 0 of an octet
@@ -60,11 +60,11 @@ module _ (x : ℕ) where
   below0 e = omega (arith, eqb-false (x % 2) 1 e)
 
   -- "MOR needs SEG", both ways
-  pub needs-seg : lonelyMor x ≡ false → bit2 x ≡ true → bit3 x ≡ true
+  pub needs-seg : morWithoutSeg x ≡ false → bit2 x ≡ true → bit3 x ≡ true
   needs-seg e m = eq-eqb (x % 16 / 8) 1 (omega (arith, eqb-false (x % 16 / 4) 1 e, eqb-true (x % 8 / 4) 1 m))
 
-  pub not-lonely : (bit2 x ≡ true → bit3 x ≡ true) → lonelyMor x ≡ false
-  not-lonely f =
+  pub mor-with-seg : (bit2 x ≡ true → bit3 x ≡ true) → morWithoutSeg x ≡ false
+  mor-with-seg f =
       ne-eqb (x % 16 / 4) 1
       (λ e. let m : x % 8 / 4 ≡ 1 = omega arith in omega (arith, eqb-true (x % 16 / 8) 1 (f (eq-eqb (x % 8 / 4) 1 m))))
 

@@ -1,28 +1,24 @@
 -- The laws of APDU headers, for all eight kinds at once: accepted exactly when, both round trips, the refusals' numbers.
-use Prim.Native.Nat.{ℕ, suc, _+_, _≤_, _<_}
+use Prim.Native.Nat.{ℕ, _+_, _/_, _≤_}
 use native.Mathlib.Omega.{arith}
-use native.Mathlib.Nat.{pos-of-ne-zero}
-use mathlib.Core.Path.{_≡_, refl, sym, ap, _∙_}
+use mathlib.Core.Path.{_≡_, refl, sym, _∙_}
 use mathlib.Core.Bool.{Bool, true, false}
-use mathlib.Core.List.{List, [], _∷_, _++_}
-use lib.ListN.{length, drop, take-append-drop, length-append}
+use mathlib.Core.List.{List, _++_}
+use lib.ListN.{length, drop, take-append-drop}
 use lib.Seq.{drop-at}
-use lib.Dec.{eqb, ltb}
-use borrow.Author.Tests.{le-ltb, ne-eqb, ltb-false, eqb-true, eqb-false}
-use Rattle.octets.specs.Choice.{pick, given, pick-not, pick-so, by-test}
-use Rattle.octets.specs.Reading.{Octets}
+use Rattle.octets.specs.Choice.{given}
+use Rattle.octets.specs.Reading.{oct}
 use Rattle.octets.specs.Has.{Has, has-cut, has-bound}
 use Rattle.octets.specs.Exact.{Exactly}
-use Rattle.apdu.specs.declared.Segment.{Segment}
 use Rattle.apdu.specs.declared.Pdu.{Pdu}
 use Rattle.apdu.specs.declared.Pdu.the-variants.{Request, Unconfirmed, SimpleAck, ComplexAck, SegmentAck, Error, Reject, Abort}
-use Rattle.apdu.specs.declared.Answer.{Answer}
 use Rattle.apdu.specs.declared.Answer.the-variants.{Good, Refused}
 use Rattle.apdu.specs.Reading.{readApdu}
-use Rattle.apdu.specs.Fields.{paramsAt, tailEnd}
-use Rattle.apdu.specs.Layout.{tail, header, Window, SegmentRules, Rules, Follows, Apdu, encode, Valid}
+use Rattle.apdu.specs.Fields.{kindOf, paramsAt, tailEnd}
+use Rattle.apdu.specs.Layout.{segment, firstOctet, tail, header, Rules, Follows, Apdu, encode, Valid}
 use Rattle.apdu.specs.Writing.{faultOf, shown}
 use Rattle.apdu.specs.Shown.{fault-rules, rules-fault, shown-same, shown-header, shown-follows}
+use Rattle.apdu.specs.FirstOctet.{parts-of}
 use Rattle.apdu.specs.Sound.{Number, Judged, judged}
 use Rattle.apdu.specs.Complete.{reads-back}
 
@@ -31,7 +27,7 @@ abbrev pub Reads : List ℕ → Apdu → Type 0
 Reads s a = (readApdu s ≡ Good (a .pdu)) × (drop (paramsAt (a .pdu)) s ≡ a .parameters)
 
 -- the place of the parameters is the header's length
-tail-length : (at : ℕ) (seg mor : Bool) (number window choice : ℕ) → at + length (tail (record { seg = seg; mor = mor; number = number; window = window }) choice) ≡ tailEnd at seg
+tail-length : (at : ℕ) (seg mor : Bool) (number window choice : ℕ) → at + length (tail (segment seg mor number window) choice) ≡ tailEnd at seg
 unfolding tail tailEnd given
 tail-length at true mor number window choice = refl
 tail-length at false mor number window choice = refl
@@ -45,6 +41,20 @@ header-length (SegmentAck p) = refl
 header-length (Error p) = refl
 header-length (Reject p) = refl
 header-length (Abort p) = refl
+
+-- the type is the one of the first octet
+first-kind : (x k : ℕ) (b3 b2 b1 b0 : Bool) → x ≡ firstOctet k b3 b2 b1 b0 → x / 16 ≡ k
+first-kind x k b3 b2 b1 b0 e = rw e (parts-of k b3 b2 b1 b0 .kind)
+
+header-kind : (s : List ℕ) (p : Pdu) → Has s 0 (header p) → oct s 0 / 16 ≡ kindOf p
+header-kind s (Request p) h = first-kind _ _ _ _ _ _ (h .1)
+header-kind s (Unconfirmed p) h = first-kind _ _ _ _ _ _ (h .1)
+header-kind s (SimpleAck p) h = first-kind _ _ _ _ _ _ (h .1)
+header-kind s (ComplexAck p) h = first-kind _ _ _ _ _ _ (h .1)
+header-kind s (SegmentAck p) h = first-kind _ _ _ _ _ _ (h .1)
+header-kind s (Error p) h = first-kind _ _ _ _ _ _ (h .1)
+header-kind s (Reject p) h = first-kind _ _ _ _ _ _ (h .1)
+header-kind s (Abort p) h = first-kind _ _ _ _ _ _ (h .1)
 
 -- octets with a header in front are that header and what follows it
 front : (s : List ℕ) (p : Pdu) → Has s 0 (header p) → s ≡ header p ++ drop (paramsAt p) s
@@ -83,3 +93,11 @@ refusal-range s n e = refused (rw e at (judged s))
 -- The parameters begin within the octets.
 pub params-within : (s : List ℕ) (p : Pdu) → readApdu s ≡ Good p → paramsAt p ≤ length s
 params-within s p e = let j = accepted (rw e at (judged s)) in omega (arith, header-length p, has-bound s 0 (header p) (j .1))
+
+-- The type that is answered is the one of the first octet.
+pub kind-read : (s : List ℕ) (p : Pdu) → readApdu s ≡ Good p → oct s 0 / 16 ≡ kindOf p
+kind-read s p e = let j = accepted (rw e at (judged s)) in header-kind s p (j .1)
+
+-- Any two answers are equal that a promise by a definition of the entry values allows: the reader's, and those of the fields.
+pub one-answer : {A : Type 0} {x r r′ : A} → r ≡ x → r′ ≡ x → r ≡ r′
+one-answer a b = a ∙ sym b

@@ -8,6 +8,10 @@ use Rattle.apdu.specs.declared.Segment.{Segment}
 use Rattle.apdu.specs.declared.Pdu.{Pdu}
 use Rattle.apdu.specs.declared.Pdu.the-variants.{Request, Unconfirmed, SimpleAck, ComplexAck, SegmentAck, Error, Reject, Abort}
 
+-- a segment by its fields
+abbrev pub segment : Bool → Bool → ℕ → ℕ → Segment
+segment seg mor number window = record { seg = seg; mor = mor; number = number; window = window }
+
 -- a bit as a number
 unfoldable pub flag : Bool → ℕ
 flag b = given b 1 0

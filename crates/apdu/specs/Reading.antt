@@ -30,8 +30,8 @@ abbrev pub bit0 : ℕ → Bool
 bit0 b = eqb (b % 2) 1
 
 -- "MOR needs SEG": bits 3 and 2 are SEG and MOR, and not 01
-abbrev pub lonelyMor : ℕ → Bool
-lonelyMor b = eqb (b % 16 / 4) 1
+abbrev pub morWithoutSeg : ℕ → Bool
+morWithoutSeg b = eqb (b % 16 / 4) 1
 
 -- "windows are 1 to 127"
 abbrev pub judgeWindow {ℓ} : {A : Type ℓ} → ℕ → A → A → A
@@ -65,7 +65,7 @@ withTail (Broken n) whole = Refused n
 unfoldable pub readRequest : List ℕ → Answer
 readRequest s =
     refuse (ltb 0 (oct s 0 % 2)) (Refused 22)
-    (refuse (lonelyMor (oct s 0)) (Refused 22)
+    (refuse (morWithoutSeg (oct s 0)) (Refused 22)
     (reach s 1 (Refused 20)
     (judgeSizeOctet (oct s 1)
     (reach s 2 (Refused 20)
@@ -90,7 +90,7 @@ readSimpleAck s =
 unfoldable pub readComplexAck : List ℕ → Answer
 readComplexAck s =
     refuse (ltb 0 (oct s 0 % 4)) (Refused 22)
-    (refuse (lonelyMor (oct s 0)) (Refused 22)
+    (refuse (morWithoutSeg (oct s 0)) (Refused 22)
     (reach s 1 (Refused 20)
     (withTail (readTail s 2) (λ g choice. ComplexAck (record { segment = g; invoke = oct s 1; choice = choice })))))
 

@@ -1,16 +1,16 @@
 -- A header is written exactly when, as it is shown, it keeps the rules; absent parts do not show in its octets.
-use Prim.Native.Nat.{ℕ, _≤_, _<_}
+use Prim.Native.Nat.{ℕ, _≤_}
 use native.Mathlib.Omega.{arith}
-use mathlib.Core.Path.{_≡_, refl, sym, _∙_}
+use mathlib.Core.Path.{_≡_, refl}
 use mathlib.Core.Bool.{Bool, true, false, true≢false, false≢true}
 use mathlib.Core.List.{List}
 use lib.Dec.{eqb, ltb}
 use borrow.Author.Tests.{le-ltb, ne-eqb, ltb-false, eqb-true, eqb-false}
-use Rattle.octets.specs.Choice.{pick, given, pick-not, by-test}
+use Rattle.octets.specs.Choice.{given, pick-not, by-test}
 use Rattle.apdu.specs.declared.Segment.{Segment}
 use Rattle.apdu.specs.declared.Pdu.{Pdu}
 use Rattle.apdu.specs.declared.Pdu.the-variants.{Request, Unconfirmed, SimpleAck, ComplexAck, SegmentAck, Error, Reject, Abort}
-use Rattle.apdu.specs.Layout.{tail, header, Window, SegmentRules, Rules, Follows}
+use Rattle.apdu.specs.Layout.{segment, tail, header, Window, SegmentRules, Rules, Follows}
 use Rattle.apdu.specs.Writing.{morFault, windowFault, segmentFault, sizeFault, orElse, faultOf, shownSegment, shown}
 
 -- no fault, and the rule that it judges, both ways
@@ -38,10 +38,6 @@ neither a b e = by-test (eqb a 0) (λ z. (eqb-true a 0 z, rw z at e)) (λ z. let
 
 none : (a b : ℕ) → a ≡ 0 → b ≡ 0 → orElse a b ≡ 0
 none a b e d = rw (e, d)
-
--- a segment by its fields
-abbrev segment : Bool → Bool → ℕ → ℕ → Segment
-segment seg mor number window = record { seg = seg; mor = mor; number = number; window = window }
 
 module _ (number window : ℕ) where
   rules-at : (seg mor : Bool) → morFault (segment seg mor number window) ≡ 0 → segmentFault (segment seg mor number window) ≡ 0 → SegmentRules (shownSegment (segment seg mor number window))

@@ -2,8 +2,7 @@
 use super::Pdu;
 use super::Segment;
 ghost use mathlib.Core.Path.{_≡_};
-ghost use Prim.Native.Nat.{_≤_};
-ghost use Rattle.apdu.specs.Fields.{kindOf, invokeOf, choiceOf, segmentOf, tailEnd, paramsAt};
+ghost use Rattle.apdu.specs.Fields.{kindOf, invokeOf, choiceOf, segmentOf, paramsAt};
 
 // The PDU type, 0 to 7.
 pub fn kind_of(p: Pdu) -> u8
@@ -75,17 +74,6 @@ pub fn segment_of(p: Pdu) -> Segment
     }
 }
 
-// The place after number, window and choice, from the place after the invoke ID.
-fn tail_end(at: usize, seg: bool) -> usize
-    requires { ⌜ at ≤ 3 ⌝ }
-    ensures { λ r. ⌜ r ≡ tailEnd at seg ⌝ }
-{
-    if seg {
-        return at + 3;
-    }
-    at + 1
-}
-
 // The place where the parameters begin: the header's length.
 pub fn params_at(p: Pdu) -> usize
     ensures { λ r. ⌜ r ≡ paramsAt p ⌝ }
@@ -93,13 +81,19 @@ pub fn params_at(p: Pdu) -> usize
     match p {
         Pdu::Request(q) => {
             let g = q.segment;
-            tail_end(3, g.seg)
+            if g.seg {
+                return 6;
+            }
+            4
         }
         Pdu::Unconfirmed(_) => 2,
         Pdu::SimpleAck(_) => 3,
         Pdu::ComplexAck(q) => {
             let g = q.segment;
-            tail_end(2, g.seg)
+            if g.seg {
+                return 5;
+            }
+            3
         }
         Pdu::SegmentAck(_) => 4,
         Pdu::Error(_) => 3,

@@ -2,15 +2,15 @@
 use Prim.Native.Nat.{ℕ}
 use mathlib.Core.Path.{_≡_}
 use mathlib.Core.Bool.{Bool, true, false}
-use mathlib.Core.List.{List, map}
+use mathlib.Core.List.{List, []}
 use mathlib.Core.Option.{Option, none, some}
 use lib.Dec.{eqb}
-use lib.ListN.{length, replicate}
+use lib.ListN.{length}
 use Rattle.octets.specs.Choice.{pick, both}
 use Rattle.runs.specs.Offered.{Answer, Box}
 use Rattle.frames.specs.declared.Receiver.{Receiver}
 use Rattle.frames.specs.Step.{soundOf, freshOf}
-use Rattle.trunk.specs.Demand.{boxOf}
+use Rattle.trunk.specs.Demand.{boxOf, unmoved}
 use Rattle.messages.specs.Slots as Messages
 use Rattle.messages.specs.Rows.{forgetNumber}
 use Rattle.messages.specs.Sound.{passes, sizedFor}
@@ -59,40 +59,63 @@ freshCollector = record { receiver = freshOf; slots = fresh }
 abbrev pub slotsOf : Collector → List (Messages.Slot Key)
 slotsOf c = view (c .slots)
 
+-- what a call answers and leaves, as the box says it
+abbrev pub Answered : Type 0
+Answered = Answer Receiver (List (Messages.Slot Key)) (List ℕ) (List ℕ)
+
+-- ---- feeding: the state c, the lent report and message areas, the piece
 -- 60: "report area not 16 octets or message area not 65,536"; 59 after it
 unfoldable pub feedRefusal : Collector → List ℕ → List ℕ → ℕ
 feedRefusal c report area =
     pick (eqb (length report) reportSize)
     (pick (sized area) (pick (sound (c .receiver) (slotsOf c)) 0 59) 60) 60
 
--- feeding: the state c, the lent report and message areas, the piece; the answer r and what is left in both areas
-abbrev pub fedBox : Collector → List ℕ → List ℕ → Answer Receiver (List (Messages.Slot Key)) (List ℕ) (List ℕ)
-fedBox c area piece = box .feed (c .receiver) (slotsOf c) area piece
+-- a report area of another size is refused; all else is the box
+unfoldable pub feeding : Collector → List ℕ → List ℕ → List ℕ → Answered
+feeding c report area piece =
+    pick (eqb (length report) reportSize) (box .feed (c .receiver) (slotsOf c) area piece) (unmoved (c .receiver) (slotsOf c) area)
 
-pub record Feeds (c : Collector) (report area piece : List ℕ) (r : Fed) (report′ area′ : List ℕ) : Type 0 where
-  pub refused : r .refused ≡ feedRefusal c report area
-  pub eaten : r .eaten ≡ pick (eqb (length report) reportSize) (fedBox c area piece .eaten) 0
-  pub reported : r .reported ≡ pick (eqb (length report) reportSize) (saidSo (fedBox c area piece .said)) false
-  pub receiver : r .state .receiver ≡ pick (eqb (length report) reportSize) (fedBox c area piece .state) (c .receiver)
-  pub slots : slotsOf (r .state) ≡ pick (eqb (length report) reportSize) (fedBox c area piece .slots) (slotsOf c)
-  pub reportAfter : report′ ≡ pick (eqb (length report) reportSize) (written (fedBox c area piece .said) report) report
-  pub areaAfter : area′ ≡ pick (eqb (length report) reportSize) (fedBox c area piece .area) area
+-- the answer r and what is left in both areas: the refusal n, and d
+pub record Tells (n : ℕ) (d : Answered) (report : List ℕ) (r : Fed) (report′ area′ : List ℕ) : Type 0 where
+  pub refused : r .refused ≡ n
+  pub eaten : r .eaten ≡ d .eaten
+  pub reported : r .reported ≡ saidSo (d .said)
+  pub receiver : r .state .receiver ≡ d .state
+  pub slots : slotsOf (r .state) ≡ d .slots
+  pub reportAfter : report′ ≡ written (d .said) report
+  pub areaAfter : area′ ≡ d .area
 
--- "Silence lends the report area alone"
+abbrev pub Feeds : Collector → List ℕ → List ℕ → List ℕ → Fed → List ℕ → List ℕ → Type 0
+Feeds c report area piece r report′ area′ = Tells (feedRefusal c report area) (feeding c report area piece) report r report′ area′
+
+-- a refused piece: nothing eaten, nothing changed
+abbrev pub unfedBy : ℕ → Collector → Fed
+unfedBy n c = record { refused = n; eaten = 0; reported = false; state = c }
+
+-- ---- a silence lends the report area alone
 unfoldable pub silenceRefusal : Collector → List ℕ → ℕ
 silenceRefusal c report = pick (eqb (length report) reportSize) (pick (sound (c .receiver) (slotsOf c)) 0 59) 60
 
-abbrev pub stillBox : Collector → Answer Receiver (List (Messages.Slot Key)) (List ℕ) (List ℕ)
-stillBox c = box .still (c .receiver) (slotsOf c) (replicate 0 0)
+-- the area plays no part in it
+unfoldable pub stilling : Collector → List ℕ → List ℕ → Answered
+stilling c report area =
+    pick (eqb (length report) reportSize) (box .still (c .receiver) (slotsOf c) area) (unmoved (c .receiver) (slotsOf c) area)
 
-pub record Stills (c : Collector) (report : List ℕ) (r : Fell) (report′ : List ℕ) : Type 0 where
-  pub refused : r .refused ≡ silenceRefusal c report
-  pub reported : r .reported ≡ pick (eqb (length report) reportSize) (saidSo (stillBox c .said)) false
-  pub receiver : r .state .receiver ≡ pick (eqb (length report) reportSize) (stillBox c .state) (c .receiver)
-  pub slots : slotsOf (r .state) ≡ slotsOf c
-  pub reportAfter : report′ ≡ pick (eqb (length report) reportSize) (written (stillBox c .said) report) report
+pub record Falls (n : ℕ) (d : Answered) (report : List ℕ) (r : Fell) (report′ : List ℕ) : Type 0 where
+  pub refused : r .refused ≡ n
+  pub reported : r .reported ≡ saidSo (d .said)
+  pub receiver : r .state .receiver ≡ d .state
+  pub slots : slotsOf (r .state) ≡ d .slots
+  pub reportAfter : report′ ≡ written (d .said) report
 
--- "Forgetting frees a slot, answers 0, 59 or 56 and writes no report": 59, then 56
+abbrev pub Stills : Collector → List ℕ → Fell → List ℕ → Type 0
+Stills c report r report′ = Falls (silenceRefusal c report) (stilling c report []) report r report′
+
+-- a silence that reports nothing, or is refused
+abbrev pub quietBy : ℕ → Collector → Fell
+quietBy n c = record { refused = n; reported = false; state = c }
+
+-- ---- "Forgetting frees a slot, answers 0, 59 or 56 and writes no report": 59, then 56
 pub record Forgets (c : Collector) (s : ℕ) (r : Forgot) : Type 0 where
   pub number : r .number ≡ pick (sound (c .receiver) (slotsOf c)) (forgetNumber keys s (slotsOf c)) 59
   pub receiver : r .state .receiver ≡ c .receiver

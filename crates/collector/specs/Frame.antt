@@ -29,7 +29,7 @@ use Rattle.collector.specs.Report.{otherFrame, damaged, unsegmented, seg
 
 -- what a frame's data are
 pub data Content : Type 0 where
-  other : Content  -- of a type other than 5 and 6
+  other : ℕ → Content  -- of a type other than 5 and 6, and the octets of its data
   refuses : ℕ → Content  -- a network header or an APDU header that is refused: 10 to 14, 20 to 24
   network : ℕ → Content  -- a network layer message, and the octets after its type (and vendor)
   message : Pdu → List ℕ → Content  -- an APDU, and all its octets
@@ -46,7 +46,9 @@ npduContent payload n =
     (apduContent (drop (n .next) payload) (readApdu (drop (n .next) payload))))
 
 unfoldable pub contentOf : List ℕ → List ℕ → Content
-contentOf head payload = pick (eqb (oct head 0) 5) (npduContent payload (readNpdu payload)) (pick (eqb (oct head 0) 6) (npduContent payload (readNpdu payload)) other)
+contentOf head payload =
+    pick (eqb (oct head 0) 5) (npduContent payload (readNpdu payload))
+    (pick (eqb (oct head 0) 6) (npduContent payload (readNpdu payload)) (other (length payload)))
 
 -- the parameters of an APDU
 abbrev pub paramsOf : Pdu → List ℕ → List ℕ
@@ -56,14 +58,15 @@ paramsOf p a = drop (paramsAt p) a
 abbrev pub keyOf : List ℕ → Pdu → Key
 keyOf head p = record { source = oct head 2; destination = oct head 1; kind = kindOf p; invoke = invokeOf p }
 
+abbrev pub segmentFrom : List ℕ → Pdu → List ℕ → Messages.Segment Key
+segmentFrom head p a =
+    record { key = keyOf head p; number = segmentOf p .number; mor = segmentOf p .mor; choice = choiceOf p; octets = paramsOf p a }
+
 abbrev pub segmentIn : List ℕ → Content → Option (Messages.Segment Key)
-segmentIn head other = none
+segmentIn head (other n) = none
 segmentIn head (refuses n) = none
 segmentIn head (network n) = none
-segmentIn head (message p a) =
-    given (segmentOf p .seg)
-    (some (record { key = keyOf head p; number = segmentOf p .number; mor = segmentOf p .mor; choice = choiceOf p; octets = paramsOf p a }))
-    none
+segmentIn head (message p a) = given (segmentOf p .seg) (some (segmentFrom head p a)) none
 
 -- ---- the reports
 -- "its tags good", or kind 6 with the tag number
@@ -72,11 +75,11 @@ byTags head (good rs end) fine = fine
 byTags head (bad x) fine = refusal head x
 
 -- a frame that carries no segment; PDUs without parameters have no tags to judge
-abbrev pub plainReport : List ℕ → List ℕ → Content → List ℕ
-plainReport head payload other = otherFrame head (length payload)
-plainReport head payload (refuses n) = refusal head n
-plainReport head payload (network n) = networkMessage head n
-plainReport head payload (message p a) = byTags head (itemsOf (paramsOf p a)) (unsegmented head (oct a 0) (invokeOf p) (length a) (choiceOf p))
+abbrev pub plainReport : List ℕ → Content → List ℕ
+plainReport head (other n) = otherFrame head n
+plainReport head (refuses n) = refusal head n
+plainReport head (network n) = networkMessage head n
+plainReport head (message p a) = byTags head (itemsOf (paramsOf p a)) (unsegmented head (oct a 0) (invokeOf p) (length a) (choiceOf p))
 
 -- a segment, by its answer and the area after it: "A completed message with bad tags is kind 6 with its tag number"
 abbrev pub segmentReport : List ℕ → Pdu → List ℕ → Rows.Answer → List ℕ → List ℕ
@@ -86,7 +89,7 @@ segmentReport head p a (completed i total) area = byTags head (itemsOf (part (ro
 
 abbrev pub answeredReport : List ℕ → Content → Rows.Answer → List ℕ → List ℕ
 answeredReport head (message p a) w area = segmentReport head p a w area
-answeredReport head other w area = refusal head 0
+answeredReport head (other n) w area = refusal head 0
 answeredReport head (refuses n) w area = refusal head 0
 answeredReport head (network n) w area = refusal head 0
 
@@ -96,7 +99,7 @@ segmentAt (whole head payload) = segmentIn head (contentOf head payload)
 segmentAt (damage n) = none
 
 abbrev pub plainAt : Trunk.Out → List ℕ
-plainAt (whole head payload) = plainReport head payload (contentOf head payload)
+plainAt (whole head payload) = plainReport head (contentOf head payload)
 plainAt (damage n) = damaged n
 
 abbrev pub answeredAt : Trunk.Out → Rows.Answer → List ℕ → List ℕ

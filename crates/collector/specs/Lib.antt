@@ -1,3 +1,5 @@
 pub mod Report
 pub mod Frame
+pub mod Acting
 pub mod Calls
+pub mod Offering

@@ -1,13 +1,13 @@
 -- The control octet and its bits.
 use Prim.Native.Nat.{ℕ, zero, suc, _+_, _*_, _/_, _%_, _≤_, _<_}
-use mathlib.Core.Path.{_≡_, refl}
-use mathlib.Core.Bool.{Bool, true, false}
-use lib.Dec.{eqb}
 use native.Mathlib.Omega.{arith}
+use mathlib.Core.Bool.{Bool, true, false}
+use mathlib.Core.Path.{_≡_, refl}
+use lib.Dec.{eqb}
 use borrow.Author.Tests.{eqb-false}
 use Rattle.octets.specs.Choice.{given}
-use Rattle.npdu.specs.declared.Npdu.{Npdu}
 use Rattle.npdu.specs.Layout.{bitOf, controlOf}
+use Rattle.npdu.specs.declared.Npdu.{Npdu}
 
 -- a flag is a digit: 1 where it is set
 bit-small : (b : Bool) → bitOf b 1 ≤ 1

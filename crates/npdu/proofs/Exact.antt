@@ -1,25 +1,25 @@
 -- "Headers .. that were read write back to the same octets": the header is accepted exactly when it is valid and its octets stand at the front.
-use Prim.Native.Nat.{ℕ, _+_, _/_, _%_, _≤_, _<_}
-use mathlib.Core.Path.{_≡_, refl, sym, ap, _∙_}
-use mathlib.Core.List.{List, [], _∷_, _++_}
-use mathlib.Core.Bool.{Bool, true, false}
-use lib.ListN.{length, getD, take, drop, length-append, take-append-drop}
-use lib.Seq.{take-at, drop-at}
-use lib.Dec.{leb, eqb}
+use Prim.Native.Nat.{ℕ, _+_, _≤_, _<_}
 use native.Mathlib.Omega.{arith}
+use mathlib.Core.Bool.{false}
+use mathlib.Core.List.{List, [], _∷_, _++_}
+use mathlib.Core.Path.{_≡_, refl, sym, ap, _∙_}
+use lib.Dec.{leb, eqb}
+use lib.ListN.{length, getD, drop, length-append, take-append-drop}
+use lib.Seq.{drop-at}
 use borrow.Author.Tests.{lt-leb, leb-false, eqb-true, eqb-false}
-use Rattle.octets.specs.Choice.{pick, given, non, pick-cases, by-test}
-use Rattle.octets.specs.Reading.{oct, refuse, Octets}
-use Rattle.octets.specs.Has.{Has, has-append, has-left, has-right, has-cut, has-bound, all-has}
+use Rattle.octets.specs.Choice.{non, pick-cases, by-test}
 use Rattle.octets.specs.Exact.{Exactly}
+use Rattle.octets.specs.Has.{Has, has-append, has-left, has-right, has-cut, has-bound, all-has}
+use Rattle.octets.specs.Reading.{oct, refuse, Octets}
+use Rattle.npdu.specs.Follow.{Followed, Reads, ValidFirst, encodeAll, accepted}
+use Rattle.npdu.specs.Layout.{version, controlOf, partOctets, hopOctets, messageOctets, partsOctets, tailOctets, encode, shown, Ruled, Kept}
+use Rattle.npdu.specs.Read.{messageBit, destBit, sourceBit, sixthBit, fourthBit, partIf, tailAt, ended, refusedBy, joined, afterTail, afterSource, afterDest, afterVersion, readNpdu}
 use Rattle.npdu.specs.declared.Npdu.{Npdu}
 use Rattle.npdu.specs.declared.Reading.{Reading}
 use Rattle.npdu.specs.declared.part.Part.{Part}
 use Rattle.npdu.specs.declared.tail.Tail.{Tail}
-use Rattle.npdu.specs.Layout.{version, zeros, controlOf, partOctets, hopOctets, messageOctets, partsOctets, tailOctets, encode, shown, Ruled, Kept, Valid}
-use Rattle.npdu.specs.Read.{messageBit, destBit, sourceBit, sixthBit, fourthBit, partIf, tailAt, ended, refusedBy, joined, afterTail, afterSource, afterDest, afterVersion, readNpdu}
-use Rattle.npdu.specs.Follow.{Followed, Reads, ValidFirst, encodeAll, accepted}
-use Rattle.npdu.proofs.Control.{Bits, control-bits, control-back}
+use Rattle.npdu.proofs.Control.{control-bits, control-back}
 use Rattle.npdu.proofs.Parts.{shownPart, part-if-reads, PartStands, part-if-sound}
 use Rattle.npdu.proofs.Tails.{shownTail, tail-reads, tail-sound}
 
@@ -136,9 +136,9 @@ reads-written h t r k = head-reads (encode h ++ t) h r k (front (encode h) t)
 pub reads-shown : (o : List ℕ) → Octets o → readNpdu o .refused ≡ 0 → readNpdu o ≡ accepted (length (encode (readNpdu o .head))) (shown (readNpdu o .head))
 reads-shown o os z = let w = head-sound o os z in head-reads o (readNpdu o .head) (w .ruled) (w .kept) (w .stands)
 
-pub exactly : Exactly Reads ValidFirst encodeAll
+pub npdu-exactly : Exactly Reads ValidFirst encodeAll
 unfolding accepted
-exactly = record { sound = sound; complete = complete }
+npdu-exactly = record { sound = sound; complete = complete }
   where
     sound : (o : List ℕ) (v : Followed) → Octets o → Reads o v → ValidFirst v × (o ≡ encodeAll v)
     sound o v os a =

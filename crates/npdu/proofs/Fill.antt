@@ -1,10 +1,10 @@
 -- An address copied to the front of seven zeros.
 use Prim.Native.Nat.{ℕ, zero, suc, _+_, _-_, _≤_}
-use mathlib.Core.Path.{_≡_, refl, sym, ap, _∙_}
-use mathlib.Core.List.{List, _++_}
+use native.Mathlib.Omega.{arith}
+use mathlib.Core.List.{List}
+use mathlib.Core.Path.{_≡_, ap, _∙_}
 use lib.ListN.{length, take, drop, length-drop}
 use lib.Seq.{length-take-le}
-use native.Mathlib.Omega.{arith}
 use Rattle.octets.specs.Splice.{splice, splice-front}
 use Rattle.npdu.specs.Layout.{zeros, cut}
 use Rattle.npdu.specs.Read.{addressOf}

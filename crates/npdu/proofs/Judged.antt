@@ -1,20 +1,20 @@
 -- "Octets are judged left to right": an answer other than "ends early" is settled by the octets judged so far, whatever follows them.
 use Prim.Native.Nat.{ℕ, _+_, _≤_, _<_}
-use mathlib.Core.Path.{_≡_, refl, sym, ap, _∙_}
-use mathlib.Core.List.{List, _++_}
-use mathlib.Core.Bool.{Bool, true, false}
-use lib.ListN.{length, getD, take, drop, length-append, length-drop, List·getD-append}
-use lib.Seq.{take-append-le, drop-append-le}
-use lib.Dec.{ltb, leb, eqb}
 use native.Mathlib.Omega.{arith}
+use mathlib.Core.Bool.{Bool, true, false}
+use mathlib.Core.List.{List, _++_}
+use mathlib.Core.Path.{_≡_, refl}
+use lib.Dec.{ltb, leb, eqb}
+use lib.ListN.{length, drop, length-append, length-drop, List·getD-append}
+use lib.Seq.{take-append-le, drop-append-le}
 use borrow.Author.Tests.{lt-leb, leb-false}
 use Rattle.octets.specs.Choice.{pick, given, non, by-test}
-use Rattle.octets.specs.Reading.{oct, be16, reach, refuse}
+use Rattle.octets.specs.Reading.{oct, be16, reach}
 use Rattle.npdu.specs.Layout.{version, cut}
+use Rattle.npdu.specs.Read.{messageBit, destBit, sourceBit, sixthBit, fourthBit, noPart, addressOf, partLen, partNet, partOf, partIf, ended, vendorAt, messageAt, tailAt, refusedBy, afterTail, afterSource, afterDest, afterVersion, readNpdu}
+use Rattle.npdu.specs.declared.Reading.{Reading}
 use Rattle.npdu.specs.declared.part.Part.{Part}
 use Rattle.npdu.specs.declared.tail.Tail.{Tail}
-use Rattle.npdu.specs.declared.Reading.{Reading}
-use Rattle.npdu.specs.Read.{messageBit, destBit, sourceBit, sixthBit, fourthBit, noPart, addressOf, partLen, partNet, partOf, partIf, ended, vendorAt, messageAt, tailAt, refusedBy, joined, afterTail, afterSource, afterDest, afterVersion, readNpdu}
 
 -- the same test with other answers behind it
 refuse-on : {A : Type 0} (Early : A → Type 0) (b : Bool) (x y y′ : A) → ((Early y → ⊥) → y′ ≡ y) → (Early (pick b x y) → ⊥) → pick b x y′ ≡ pick b x y

@@ -1,20 +1,20 @@
 -- What a reading can answer: a refusal by 10 to 14 with every other field 0, or a header that ends within the octets.
 use Prim.Native.Nat.{ℕ, _+_, _≤_}
-use mathlib.Core.Path.{_≡_, refl}
-use mathlib.Core.Logic.{_⊎_, inl, inr, ⊎-elim}
-use mathlib.Core.List.{List}
-use mathlib.Core.Bool.{Bool, true, false}
-use lib.ListN.{length}
-use lib.Dec.{ltb, leb, eqb}
 use native.Mathlib.Omega.{arith}
-use borrow.Author.Tests.{leb-false, eqb-false}
-use Rattle.octets.specs.Choice.{non, pick-cases, pick-case, given-cases, by-test}
+use mathlib.Core.Bool.{Bool}
+use mathlib.Core.List.{List}
+use mathlib.Core.Logic.{_⊎_, inl, inr, ⊎-elim}
+use mathlib.Core.Path.{_≡_, refl}
+use lib.Dec.{ltb, leb, eqb}
+use lib.ListN.{length}
+use borrow.Author.Tests.{leb-false}
+use Rattle.octets.specs.Choice.{non, pick-cases, pick-case, given-cases}
 use Rattle.octets.specs.Reading.{oct, be16, refuse}
 use Rattle.npdu.specs.Layout.{version}
+use Rattle.npdu.specs.Read.{messageBit, destBit, sourceBit, sixthBit, fourthBit, noPart, partLen, partNet, partOf, partIf, ended, vendorAt, messageAt, tailAt, refusedBy, joined, afterTail, afterSource, afterDest, afterVersion, readNpdu}
+use Rattle.npdu.specs.declared.Reading.{Reading}
 use Rattle.npdu.specs.declared.part.Part.{Part}
 use Rattle.npdu.specs.declared.tail.Tail.{Tail}
-use Rattle.npdu.specs.declared.Reading.{Reading}
-use Rattle.npdu.specs.Read.{messageBit, destBit, sourceBit, sixthBit, fourthBit, noPart, partLen, partNet, partOf, partIf, ended, vendorAt, messageAt, tailAt, refusedBy, joined, afterTail, afterSource, afterDest, afterVersion, readNpdu}
 
 abbrev Number : ℕ → Type 0
 Number n = (10 ≤ n) × (n ≤ 14)

@@ -1,20 +1,19 @@
 -- A part is read exactly where its octets stand.
-use Prim.Native.Nat.{ℕ, _+_, _*_, _-_, _/_, _%_, _≤_, _<_}
-use mathlib.Core.Path.{_≡_, refl, sym, ap, _∙_}
-use mathlib.Core.List.{List, [], _∷_, _++_}
+use Prim.Native.Nat.{ℕ, _+_, _*_, _-_, _≤_, _<_}
+use native.Mathlib.Omega.{arith}
 use mathlib.Core.Bool.{Bool, true, false, false≢true}
+use mathlib.Core.List.{List}
+use mathlib.Core.Path.{_≡_, refl, ap}
+use lib.Dec.{ltb, leb, eqb}
 use lib.ListN.{length, getD, take, drop, length-append, length-drop, length-replicate}
 use lib.Seq.{length-take-le, take-at}
-use lib.Dec.{ltb, leb, eqb}
-use native.Mathlib.Omega.{arith}
 use borrow.Author.Tests.{lt-leb, le-ltb, ne-eqb, leb-false, ltb-false, eqb-false}
-use Rattle.octets.specs.Choice.{pick, given, pick-cases, pick-case}
-use Rattle.octets.specs.Reading.{oct, be16, Octets}
+use Rattle.octets.specs.Choice.{given, pick-cases, pick-case}
 use Rattle.octets.specs.Has.{Has, has-take, has-cut, has-bound}
-use Rattle.npdu.specs.declared.part.Part.{Part}
+use Rattle.octets.specs.Reading.{oct, be16, Octets}
 use Rattle.npdu.specs.Layout.{zeros, cut, partLaid, partOctets, PartValid}
 use Rattle.npdu.specs.Read.{noPart, addressOf, partLen, partNet, partOf, partIf}
-use Rattle.npdu.proofs.Sizes.{part-length}
+use Rattle.npdu.specs.declared.part.Part.{Part}
 
 -- an address cut to its length
 pub take-cut : (len : ℕ) (x : List ℕ) → len ≤ length x → take len (cut len x) ≡ take len x

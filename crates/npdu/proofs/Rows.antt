@@ -1,10 +1,9 @@
 -- Rows 10 to 14 at their edges, worked out on the definition of the reading.
 use Prim.Native.Nat.{ℕ}
-use mathlib.Core.Path.{_≡_, refl}
 use mathlib.Core.List.{List, [], _∷_, map}
+use mathlib.Core.Path.{_≡_, refl}
 use Rattle.octets.specs.Choice.{given}
-use Rattle.npdu.specs.Layout.{cut}
-use Rattle.npdu.specs.Read.{noPart, addressOf, partLen, partNet, partOf, partIf, ended, vendorAt, messageAt, tailAt, refusedBy, joined, afterTail, afterSource, afterDest, afterVersion, readNpdu}
+use Rattle.npdu.specs.Read.{noPart, partLen, partNet, partOf, partIf, ended, vendorAt, messageAt, tailAt, refusedBy, joined, afterTail, afterSource, afterDest, afterVersion, readNpdu}
 
 -- the number and the place where what follows begins
 abbrev answer : List ℕ → List ℕ

@@ -1,18 +1,18 @@
 -- How many octets are laid, and what a header without a fault keeps to.
-use Prim.Native.Nat.{ℕ, _+_, _≤_}
-use mathlib.Core.Path.{_≡_, refl}
-use mathlib.Core.List.{List}
+use Prim.Native.Nat.{ℕ, _≤_}
+use native.Mathlib.Omega.{arith}
 use mathlib.Core.Bool.{Bool, true, false}
+use mathlib.Core.List.{List}
+use mathlib.Core.Path.{_≡_, refl}
+use lib.Dec.{ltb, eqb}
 use lib.ListN.{length, length-append}
 use lib.Seq.{length-take-le}
-use lib.Dec.{ltb, eqb}
-use native.Mathlib.Omega.{arith}
 use borrow.Author.Tests.{ltb-false, eqb-false, eqb-true}
 use Rattle.octets.specs.Choice.{pick, given, pick-not, pick-cases, by-test}
-use Rattle.npdu.specs.declared.Npdu.{Npdu}
-use Rattle.npdu.specs.Layout.{partLaid, partOctets, hopOctets, messageLaid, messageOctets, partsOctets, tailOctets, encode, PartValid, Ruled, Kept}
 use Rattle.npdu.specs.Fault.{partRules, partFault, sooner, faultOf}
+use Rattle.npdu.specs.Layout.{partLaid, partOctets, hopOctets, messageLaid, messageOctets, partsOctets, tailOctets, encode, PartValid, Ruled, Kept}
 use Rattle.npdu.specs.Size.{partSize, hopSize, kindSize, messageSize, partsSize, tailSize, sizeOf}
+use Rattle.npdu.specs.declared.Npdu.{Npdu}
 
 -- a part without a fault
 none-here : (b : Bool) (f y : ℕ) → 1 ≤ f → pick b f y ≡ 0 → (b ≡ false) × (y ≡ 0)

@@ -1,18 +1,18 @@
 -- The header's end is read exactly where its octets stand.
 use Prim.Native.Nat.{ℕ, _+_, _*_, _/_, _%_, _≤_, _<_}
-use mathlib.Core.Path.{_≡_, refl, sym, ap, _∙_}
-use mathlib.Core.List.{List, [], _∷_, _++_}
-use mathlib.Core.Bool.{Bool, true, false}
-use lib.ListN.{length, getD}
-use lib.Dec.{ltb, leb}
 use native.Mathlib.Omega.{arith}
+use mathlib.Core.Bool.{Bool, true, false}
+use mathlib.Core.List.{List, [], _∷_, _++_}
+use mathlib.Core.Path.{_≡_, refl, sym, ap}
+use lib.Dec.{ltb, leb}
+use lib.ListN.{length, getD}
 use borrow.Author.Tests.{lt-leb, leb-false}
 use Rattle.octets.specs.Choice.{pick, given, pick-cases, by-test}
-use Rattle.octets.specs.Reading.{oct, be16, Octets}
 use Rattle.octets.specs.Has.{Has}
-use Rattle.npdu.specs.declared.tail.Tail.{Tail}
+use Rattle.octets.specs.Reading.{oct, Octets}
 use Rattle.npdu.specs.Layout.{hopOctets, messageLaid, messageOctets}
 use Rattle.npdu.specs.Read.{ended, vendorAt, messageAt, tailAt}
+use Rattle.npdu.specs.declared.tail.Tail.{Tail}
 
 -- the vendor of a message of this type
 abbrev shownVendor : ℕ → ℕ → ℕ

@@ -1,24 +1,23 @@
 -- What a writer's promise says of the octets that it leaves, and that each public call promises one answer.
-use Prim.Native.Nat.{ℕ, _≤_, _<_}
-use mathlib.Core.Path.{_≡_, refl, sym, ap, _∙_}
-use mathlib.Core.List.{List, _++_}
-use mathlib.Core.Bool.{Bool, true, false, false≢true}
-use lib.ListN.{length, drop}
-use lib.Dec.{ltb, eqb}
+use Prim.Native.Nat.{ℕ}
 use native.Mathlib.Omega.{arith}
-use borrow.Author.Tests.{ne-eqb, le-ltb, eqb-true}
-use Rattle.octets.specs.Choice.{pick, given, by-test}
-use Rattle.octets.specs.Laid.{Laid, answerOf, areaOf, laid-one}
+use mathlib.Core.Bool.{Bool, true, false}
+use mathlib.Core.List.{List}
+use mathlib.Core.Path.{_≡_, refl, sym, _∙_}
+use lib.ListN.{length, drop}
+use borrow.Author.Tests.{ne-eqb, le-ltb}
+use Rattle.octets.specs.Choice.{given}
+use Rattle.octets.specs.Laid.{Laid, laid-one, laid-wrote}
 use Rattle.octets.specs.declared.Written.{Written}
-use Rattle.octets.specs.declared.Written.the-variants.{Wrote, Refused}
+use Rattle.octets.specs.declared.Written.the-variants.{Wrote}
+use Rattle.npdu.specs.Fault.{partRules, partFault, sooner, faultOf}
+use Rattle.npdu.specs.Follow.{accepted}
+use Rattle.npdu.specs.Layout.{encode, shown, PartValid, Ruled, Kept}
+use Rattle.npdu.specs.Read.{readNpdu}
 use Rattle.npdu.specs.declared.Npdu.{Npdu}
 use Rattle.npdu.specs.declared.Reading.{Reading}
-use Rattle.npdu.specs.Layout.{encode, shown, PartValid, Ruled, Kept}
-use Rattle.npdu.specs.Fault.{partRules, partFault, sooner, faultOf}
-use Rattle.npdu.specs.Read.{readNpdu}
-use Rattle.npdu.specs.Follow.{accepted}
-use Rattle.npdu.proofs.Sizes.{fault-none}
 use Rattle.npdu.proofs.Exact.{reads-written}
+use Rattle.npdu.proofs.Sizes.{fault-none}
 
 -- a header that keeps to the rules is not refused
 rules-fine : (here : Bool) (net len low top : ℕ) → (here ≡ true → PartValid net len low top) → partFault here net len low top ≡ 0
@@ -32,17 +31,6 @@ pub ruled-fine : (h : Npdu) → Ruled h → faultOf h ≡ 0
 unfolding faultOf sooner
 ruled-fine h r =
     rw (le-ltb 3 (h .priority) (r .urgency), rules-fine (h .dest) (h .dnet) (h .dlen) 0 65535 (r .destination)) (rules-fine (h .source) (h .snet) (h .slen) 1 65534 (r .origin))
-
--- what writing answered with a count, it laid: the octets of a header without a fault
-pub laid-wrote : (f n : ℕ) (o area later : List ℕ) → Laid f o area (Wrote n) later → (f ≡ 0) × (n ≡ length o) × (later ≡ o ++ drop (length o) area)
-unfolding answerOf areaOf
-laid-wrote f n o area later l =
-    by-test (eqb f 0)
-    (λ e.
-    by-test (ltb (length area) (length o))
-    (λ g. let a : Wrote n ≡ Refused 61 = rw (e, g) at (l .answer) in let z : _≡_ {A = ℕ} 0 1 = cc in absurd (omega arith))
-    (λ g. let a : Wrote n ≡ Wrote (length o) = rw (e, g) at (l .answer) in (eqb-true f 0 e, cc, rw (e, g) at (l .after))))
-    (λ e. let a : Wrote n ≡ Refused f = rw e at (l .answer) in let z : _≡_ {A = ℕ} 0 1 = cc in absurd (omega arith))
 
 -- "Fields of an absent part, and address octets past the length, aren't looked at and are read as 0": what was written reads back as what it shows
 pub written-reads : (h : Npdu) (n : ℕ) (area later : List ℕ) → Kept h → Laid (faultOf h) (encode h) area (Wrote n) later → readNpdu later ≡ accepted n (shown h)

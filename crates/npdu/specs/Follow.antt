@@ -1,8 +1,8 @@
 -- A header and the octets that follow it: what "accepted exactly when" is said of.
 use Prim.Native.Nat.{ℕ}
-use mathlib.Core.Path.{_≡_}
 use mathlib.Core.List.{List, _++_}
-use lib.ListN.{length, drop}
+use mathlib.Core.Path.{_≡_}
+use lib.ListN.{drop}
 use Rattle.npdu.specs.Layout.{encode, Valid}
 use Rattle.npdu.specs.Read.{readNpdu}
 use Rattle.npdu.specs.declared.Npdu.{Npdu}

@@ -1,10 +1,10 @@
 -- The network header (clause 6.2): its layout and its rules, apart from any reading.
 use Prim.Native.Nat.{ℕ, _+_, _-_, _/_, _%_, _≤_}
-use mathlib.Core.Path.{_≡_}
 use mathlib.Core.Bool.{Bool, true}
 use mathlib.Core.List.{List, [], _∷_, _++_}
-use lib.ListN.{length, take, replicate}
+use mathlib.Core.Path.{_≡_}
 use lib.Dec.{ltb}
+use lib.ListN.{length, take, replicate}
 use Rattle.octets.specs.Choice.{pick, given}
 use Rattle.npdu.specs.declared.Npdu.{Npdu}
 

@@ -1,33 +1,25 @@
 // The refusal that a header to be written deserves.
 use crate::Npdu;
 ghost use mathlib.Core.Path.{_≡_};
-ghost use Rattle.npdu.specs.Fault.{partRules, partFault, faultOf};
+ghost use Rattle.npdu.specs.Fault.{partFault, faultOf};
 
-// A part's refusal, or 0.
-fn part_rules(net: u16, len: u8, low: u8, top: u16) -> u8
-    ensures { λ r. ⌜ r ≡ partRules net len low top ⌝ }
-{
-    if net == 0 {
-        return 14;
-    }
-    if top < net {
-        return 14;
-    }
-    if len < low {
-        return 13;
-    }
-    if 7 < len {
-        return 13;
-    }
-    0
-}
-
-// The same for a part that may be absent.
+// A part's refusal, or 0: an absent part is not looked at.
 fn part_fault(here: bool, net: u16, len: u8, low: u8, top: u16) -> u8
     ensures { λ r. ⌜ r ≡ partFault here net len low top ⌝ }
 {
     if here {
-        return part_rules(net, len, low, top);
+        if net == 0 {
+            return 14;
+        }
+        if top < net {
+            return 14;
+        }
+        if len < low {
+            return 13;
+        }
+        if 7 < len {
+            return 13;
+        }
     }
     0
 }

@@ -6,7 +6,7 @@ use crate::tail::Tail;
 ghost use mathlib.Core.Path.{_≡_};
 ghost use Prim.Native.Nat.{_≤_};
 ghost use lib.ListN.{length};
-ghost use Rattle.npdu.specs.Read.{refusedBy, joined, afterTail, afterSource, afterDest, afterVersion};
+ghost use Rattle.npdu.specs.Read.{refusedBy, afterTail, afterSource, afterDest, afterVersion};
 
 // A refusal: every other field is 0.
 pub fn refused_by(n: u8) -> Reading
@@ -38,9 +38,13 @@ pub fn refused_by(n: u8) -> Reading
 }
 
 // The header of a control octet, both parts and the end.
-fn join(c: u8, d: Part, q: Part, t: Tail) -> Reading
-    ensures { λ r. ⌜ r ≡ joined c d q t ⌝ }
+fn after_tail(c: u8, d: Part, q: Part, t: Tail) -> Reading
+    ensures { λ r. ⌜ r ≡ afterTail c d q t ⌝ }
 {
+    let f = t.refused;
+    if f != 0 {
+        return refused_by(f);
+    }
     let a = d.adr;
     let b = q.adr;
     let h = Npdu {
@@ -66,16 +70,7 @@ fn join(c: u8, d: Part, q: Part, t: Tail) -> Reading
     }
 }
 
-fn after_tail(c: u8, d: Part, q: Part, t: Tail) -> Reading
-    ensures { λ r. ⌜ r ≡ afterTail c d q t ⌝ }
-{
-    let f = t.refused;
-    if f != 0 {
-        return refused_by(f);
-    }
-    join(c, d, q, t)
-}
-
+// The header whose source part, if any, was read.
 fn after_source(s: &[u8], c: u8, d: Part, q: Part) -> Reading
     requires { ⌜ q .next ≤ length (now s) ⌝ }
     ensures { λ r. ⌜ r ≡ afterSource (now (s .entry)) c d q ⌝ }
@@ -93,6 +88,7 @@ fn after_source(s: &[u8], c: u8, d: Part, q: Part) -> Reading
     )
 }
 
+// The header whose destination part, if any, was read.
 fn after_dest(s: &[u8], c: u8, d: Part) -> Reading
     requires { ⌜ d .next ≤ length (now s) ⌝ }
     ensures { λ r. ⌜ r ≡ afterDest (now (s .entry)) c d ⌝ }

@@ -5,9 +5,9 @@ ghost use mathlib.Core.Bool.{true};
 ghost use Prim.Native.Nat.{_+_, _≤_};
 ghost use lib.ListN.{length};
 ghost use Rattle.octets.specs.Splice.{splice};
-ghost use Rattle.npdu.specs.Layout.{bitOf, controlOf, partLaid, partOctets, hopOctets, messageLaid, messageOctets, partsOctets, tailOctets, encode};
+ghost use Rattle.npdu.specs.Layout.{bitOf, controlOf, partOctets, messageOctets, partsOctets, tailOctets, encode};
 ghost use Rattle.npdu.specs.Fault.{faultOf};
-ghost use Rattle.npdu.specs.Size.{partSize, hopSize, kindSize, messageSize, partsSize, tailSize, sizeOf};
+ghost use Rattle.npdu.specs.Size.{partSize, hopSize, messageSize, partsSize, tailSize, sizeOf};
 
 // How many octets a part takes.
 fn part_size(here: bool, len: u8) -> usize
@@ -32,40 +32,28 @@ fn hop_size(here: bool) -> usize
 }
 
 // How many octets a message's type takes, with its vendor.
-fn kind_size(kind: u8) -> usize
-    ensures value { λ r. ⌜ r ≡ kindSize kind ⌝ }
-    ensures small { λ r. ⌜ r ≤ 3 ⌝ }
-{
-    if kind < 128 {
-        return 1;
-    }
-    3
-}
-
-// The same where there may be no message.
 fn message_size(here: bool, kind: u8) -> usize
     ensures value { λ r. ⌜ r ≡ messageSize here kind ⌝ }
     ensures small { λ r. ⌜ r ≤ 3 ⌝ }
 {
     if here {
-        return kind_size(kind);
+        if kind < 128 {
+            return 1;
+        }
+        return 3;
     }
     0
-}
-
-// How many octets both parts take.
-fn parts_size(h: Npdu) -> usize
-    ensures value { λ r. ⌜ r ≡ partsSize h ⌝ }
-    ensures small { λ r. ⌜ r ≤ 516 ⌝ }
-{
-    part_size(h.dest, h.dlen) + part_size(h.source, h.slen)
 }
 
 // How many octets the header takes.
 pub fn size(h: Npdu) -> usize
     ensures { λ r. ⌜ r ≡ sizeOf h ⌝ }
 {
-    2 + parts_size(h) + hop_size(h.dest) + message_size(h.message, h.kind)
+    2
+        + part_size(h.dest, h.dlen)
+        + part_size(h.source, h.slen)
+        + hop_size(h.dest)
+        + message_size(h.message, h.kind)
 }
 
 // A bit of this weight, if it is set.
@@ -87,59 +75,33 @@ fn control(h: Npdu) -> u8
     bit(h.message, 128) + bit(h.dest, 32) + bit(h.source, 8) + bit(h.reply, 4) + h.priority
 }
 
-// A part at a place.
-fn put_part(out: &mut [u8], at: usize, net: u16, len: u8, adr: [u8; 7])
-    requires { ⌜ (len ≤ 7) × (at + 3 + len ≤ length (now out)) ⌝ }
-    ensures { λ _. ⌜ now (out .exit) ≡ splice (now (out .entry)) at (partLaid net len adr) ⌝ }
-{
-    let k = len as usize;
-    octets::put(out, at, (net / 256) as u8);
-    octets::put(out, at + 1, (net % 256) as u8);
-    octets::put(out, at + 2, len);
-    octets::copy(&adr[..k], out, at + 3);
-}
-
 // A part at a place, if it is present.
-fn put_part_if(out: &mut [u8], at: usize, here: bool, net: u16, len: u8, adr: [u8; 7])
+fn put_part(out: &mut [u8], at: usize, here: bool, net: u16, len: u8, adr: [u8; 7])
     requires { ⌜ (here ≡ true → len ≤ 7) × (at + partSize here len ≤ length (now out)) ⌝ }
     ensures { λ _. ⌜ now (out .exit) ≡ splice (now (out .entry)) at (partOctets here net len adr) ⌝ }
 {
     if here {
-        put_part(out, at, net, len, adr);
+        let k = len as usize;
+        out[at] = (net / 256) as u8;
+        out[at + 1] = (net % 256) as u8;
+        out[at + 2] = len;
+        octets::copy(&adr[..k], out, at + 3);
     }
 }
 
-// The hop count at a place, if there is a destination.
-fn put_hops(out: &mut [u8], at: usize, here: bool, hops: u8)
-    requires { ⌜ at + hopSize here ≤ length (now out) ⌝ }
-    ensures { λ _. ⌜ now (out .exit) ≡ splice (now (out .entry)) at (hopOctets here hops) ⌝ }
-{
-    if here {
-        octets::put(out, at, hops);
-    }
-}
-
-// A message's type at a place, with its vendor.
-fn put_kind(out: &mut [u8], at: usize, kind: u8, vendor: u16)
-    requires { ⌜ at + kindSize kind ≤ length (now out) ⌝ }
-    ensures { λ _. ⌜ now (out .exit) ≡ splice (now (out .entry)) at (messageLaid kind vendor) ⌝ }
-{
-    if kind < 128 {
-        octets::put(out, at, kind);
-        return;
-    }
-    octets::put(out, at, kind);
-    octets::put(out, at + 1, (vendor / 256) as u8);
-    octets::put(out, at + 2, (vendor % 256) as u8);
-}
-
-// The same, if it is a network message.
+// A network message's type at a place, with its vendor.
 fn put_message(out: &mut [u8], at: usize, here: bool, kind: u8, vendor: u16)
     requires { ⌜ at + messageSize here kind ≤ length (now out) ⌝ }
     ensures { λ _. ⌜ now (out .exit) ≡ splice (now (out .entry)) at (messageOctets here kind vendor) ⌝ }
 {
     if here {
-        put_kind(out, at, kind, vendor);
+        if kind < 128 {
+            out[at] = kind;
+            return;
+        }
+        out[at] = kind;
+        out[at + 1] = (vendor / 256) as u8;
+        out[at + 2] = (vendor % 256) as u8;
     }
 }
 
@@ -151,8 +113,8 @@ fn put_parts(out: &mut [u8], at: usize, h: Npdu)
     let da = h.dadr;
     let sa = h.sadr;
     let k = part_size(h.dest, h.dlen);
-    put_part_if(out, at, h.dest, h.dnet, h.dlen, da);
-    put_part_if(out, at + k, h.source, h.snet, h.slen, sa);
+    put_part(out, at, h.dest, h.dnet, h.dlen, da);
+    put_part(out, at + k, h.source, h.snet, h.slen, sa);
 }
 
 // Hop count, message type and vendor from a place on.
@@ -160,9 +122,13 @@ fn put_tail(out: &mut [u8], at: usize, h: Npdu)
     requires { ⌜ at + tailSize h ≤ length (now out) ⌝ }
     ensures { λ _. ⌜ now (out .exit) ≡ splice (now (out .entry)) at (tailOctets h) ⌝ }
 {
-    let k = hop_size(h.dest);
-    put_hops(out, at, h.dest, h.hops);
-    put_message(out, at + k, h.message, h.kind, h.vendor);
+    let dest = h.dest;
+    if dest {
+        out[at] = h.hops;
+        put_message(out, at + 1, h.message, h.kind, h.vendor);
+        return;
+    }
+    put_message(out, at, h.message, h.kind, h.vendor);
 }
 
 // The whole header at the front.
@@ -170,9 +136,9 @@ pub fn put_head(out: &mut [u8], h: Npdu)
     requires { ⌜ (faultOf h ≡ 0) × (sizeOf h ≤ length (now out)) ⌝ }
     ensures { λ _. ⌜ now (out .exit) ≡ splice (now (out .entry)) 0 (encode h) ⌝ }
 {
-    let k = parts_size(h);
-    octets::put(out, 0, 1);
-    octets::put(out, 1, control(h));
+    let k = part_size(h.dest, h.dlen) + part_size(h.source, h.slen);
+    out[0] = 1;
+    out[1] = control(h);
     put_parts(out, 2, h);
     put_tail(out, 2 + k, h);
 }

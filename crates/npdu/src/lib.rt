@@ -36,7 +36,7 @@ pub struct Reading {
     pub head: Npdu,
 }
 
-// The header at the front of these octets.
+// The header at the front of these octets, or 10 to 14. Each octet is reached before it is judged.
 pub fn read(s: &[u8]) -> Reading
     ensures { λ r. ⌜ r ≡ readNpdu (now (s .entry)) ⌝ }
 {
@@ -52,7 +52,7 @@ pub fn read(s: &[u8]) -> Reading
     head::after_version(s, s[1])
 }
 
-// The header's octets at the front of a lent area.
+// The header's octets at the front of a lent area, or the number of the first field that breaks a rule (12, 14, 13), or 61.
 pub fn write(h: Npdu, out: &mut [u8]) -> octets::Written
     ensures { λ r. ⌜ Laid (faultOf h) (encode h) (now (out .entry)) r (now (out .exit)) ⌝ }
 {

@@ -2,7 +2,7 @@
 ghost use mathlib.Core.Path.{_≡_};
 ghost use Prim.Native.Nat.{_+_, _≤_};
 ghost use lib.ListN.{length};
-ghost use Rattle.npdu.specs.Read.{addressOf, noPart, partLen, partNet, partOf, partIf};
+ghost use Rattle.npdu.specs.Read.{addressOf, noPart, partNet, partOf, partIf};
 
 // What reading a part gives: a refusal number, or 0 with the place after the part and its fields.
 pub struct Part {
@@ -38,11 +38,21 @@ fn address(s: &[u8], at: usize, n: usize) -> [u8; 7]
     a
 }
 
-// The part at a place whose network number and length octet were reached.
-fn part_len(s: &[u8], at: usize, net: u16, len: u8, low: u8) -> Part
-    requires { ⌜ at + 3 ≤ length (now s) ⌝ }
-    ensures { λ r. ⌜ r ≡ partLen (now (s .entry)) at net len low ⌝ }
+// The part at a place whose network number was reached.
+fn part_net(s: &[u8], at: usize, net: u16, low: u8, top: u16) -> Part
+    requires { ⌜ at + 2 ≤ length (now s) ⌝ }
+    ensures { λ r. ⌜ r ≡ partNet (now (s .entry)) at net low top ⌝ }
 {
+    if net == 0 {
+        return no_part(14, 0);
+    }
+    if top < net {
+        return no_part(14, 0);
+    }
+    if s.len() <= at + 2 {
+        return no_part(10, 0);
+    }
+    let len = s[at + 2];
     if len < low {
         return no_part(13, 0);
     }
@@ -61,23 +71,6 @@ fn part_len(s: &[u8], at: usize, net: u16, len: u8, low: u8) -> Part
         len: len,
         adr: a,
     }
-}
-
-// The part at a place whose network number was reached.
-fn part_net(s: &[u8], at: usize, net: u16, low: u8, top: u16) -> Part
-    requires { ⌜ at + 2 ≤ length (now s) ⌝ }
-    ensures { λ r. ⌜ r ≡ partNet (now (s .entry)) at net low top ⌝ }
-{
-    if net == 0 {
-        return no_part(14, 0);
-    }
-    if top < net {
-        return no_part(14, 0);
-    }
-    if s.len() <= at + 2 {
-        return no_part(10, 0);
-    }
-    part_len(s, at, net, s[at + 2], low)
 }
 
 // The part at a place: its length at least low, its network number at most top.

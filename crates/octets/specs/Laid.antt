@@ -6,8 +6,9 @@ use lib.ListN.{length, drop}
 use lib.Seq.{sets, sets-eq}
 use lib.Dec.{ltb, eqb}
 use native.Mathlib.Nat.{zero-add}
-use borrow.Author.Tests.{lt-ltb, le-ltb, eq-eqb, ne-eqb}
-use Rattle.octets.specs.Choice.{pick}
+use native.Mathlib.Omega.{arith}
+use borrow.Author.Tests.{lt-ltb, le-ltb, eq-eqb, ne-eqb, eqb-true}
+use Rattle.octets.specs.Choice.{pick, by-test}
 use Rattle.octets.specs.Splice.{splice, splice-front}
 use Rattle.octets.specs.declared.Written.{Written}
 use Rattle.octets.specs.declared.Written.the-variants.{Wrote, Refused}
@@ -49,3 +50,14 @@ laid-over f n o area later e k h d =
 
 pub laid-as : {f f′ : ℕ} {o o′ area later : List ℕ} {r : Written} → f ≡ f′ → o ≡ o′ → Laid f o area r later → Laid f′ o′ area r later
 laid-as e d h = rw (← e, ← d) h
+
+-- a write that answered a count: no field was refused, the count is the result's, and the result lies in front
+pub laid-wrote : (f n : ℕ) (o area later : List ℕ) → Laid f o area (Wrote n) later → (f ≡ 0) × (n ≡ length o) × (later ≡ o ++ drop (length o) area)
+unfolding answerOf areaOf
+laid-wrote f n o area later l =
+    by-test (eqb f 0)
+    (λ e.
+    by-test (ltb (length area) (length o))
+    (λ g. let a : Wrote n ≡ Refused 61 = rw (e, g) at (l .answer) in let z : _≡_ {A = ℕ} 0 1 = cc in absurd (omega arith))
+    (λ g. let a : Wrote n ≡ Wrote (length o) = rw (e, g) at (l .answer) in (eqb-true f 0 e, cc, rw (e, g) at (l .after))))
+    (λ e. let a : Wrote n ≡ Refused f = rw e at (l .answer) in let z : _≡_ {A = ℕ} 0 1 = cc in absurd (omega arith))

@@ -1,5 +1,5 @@
 // One tag item at a place: its number, class and length in their forms, and its contents judged.
-mod contents;
+pub mod contents;
 mod fields;
 mod kinds;
 

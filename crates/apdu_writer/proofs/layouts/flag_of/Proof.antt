@@ -1,6 +1,6 @@
 use borrow.Author.Needs.{needs}
 use Rattle.apdu.specs.Layout.{flag}
-use Rattle.octets.specs.Rules.{tests, flags}
+use Rattle.octets.specs.Rules.{flags}
 use Rattle.apdu_writer.proofs.layouts.flag_of.Statement.{statement}
 use Rattle.apdu_writer.proofs.layouts.flag_of.Tie as tie
 

@@ -1,6 +1,6 @@
-use Rattle.npdu.specs.Fault.{faultOf, sooner}
-use Rattle.octets.specs.Rules.{tests}
 use borrow.Author.Needs.{needs}
+use Rattle.octets.specs.Rules.{tests}
+use Rattle.npdu.specs.Fault.{faultOf, sooner}
 use Rattle.npdu.proofs.fault.head_fault.Statement.{statement}
 use Rattle.npdu.proofs.fault.head_fault.Tie as tie
 

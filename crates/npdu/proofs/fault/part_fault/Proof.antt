@@ -1,14 +1,17 @@
-use Rattle.npdu.specs.Fault.{partFault}
-use Rattle.octets.specs.Rules.{tests, flags}
 use borrow.Author.Needs.{needs}
+use Rattle.octets.specs.Rules.{tests, flags}
+use Rattle.npdu.specs.Fault.{partFault, partRules}
 use Rattle.npdu.proofs.fault.part_fault.Statement.{statement}
 use Rattle.npdu.proofs.fault.part_fault.Tie as tie
 
 pub part-fault-spec : {M : Type 1} → statement M
-unfolding partFault
+unfolding partFault partRules
 part-fault-spec =
     tie.close
     (tie.spec
-    (λ c κs. search needs)
+    (λ c. search (needs, tests, flags))
+    (λ c. search (needs, tests, flags))
+    (λ c. search (needs, tests, flags))
+    (λ c. search (needs, tests, flags))
     (λ c. search (needs, tests, flags))
     (λ c. search (needs, tests, flags)))

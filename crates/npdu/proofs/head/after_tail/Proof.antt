@@ -1,15 +1,14 @@
-use Rattle.npdu.specs.Read.{afterTail}
-use Rattle.octets.specs.Rules.{tests}
 use borrow.Author.Needs.{needs}
+use Rattle.octets.specs.Rules.{tests}
+use Rattle.npdu.specs.Read.{afterTail, joined}
 use Rattle.npdu.proofs.head.after_tail.Statement.{statement}
 use Rattle.npdu.proofs.head.after_tail.Tie as tie
 
 pub after-tail-spec : {M : Type 1} → statement M
-unfolding afterTail
+unfolding afterTail joined
 after-tail-spec =
     tie.close
     (tie.spec
     (λ c κs. search needs)
     (λ c. search (needs, tests))
-    (λ c κs. search needs)
     (λ c. search (needs, tests)))

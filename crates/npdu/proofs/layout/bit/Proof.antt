@@ -1,6 +1,6 @@
 use borrow.Author.Needs.{needs}
-use Rattle.npdu.specs.Layout.{bitOf}
 use Rattle.octets.specs.Rules.{tests, flags}
+use Rattle.npdu.specs.Layout.{bitOf}
 use Rattle.npdu.proofs.layout.bit.Statement.{statement}
 use Rattle.npdu.proofs.layout.bit.Tie as tie
 

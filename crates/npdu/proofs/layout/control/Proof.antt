@@ -1,6 +1,6 @@
-use Rattle.npdu.specs.Layout.{controlOf}
 use native.Mathlib.Omega.{arith}
 use borrow.Author.Needs.{needs}
+use Rattle.npdu.specs.Layout.{controlOf}
 use Rattle.npdu.proofs.layout.control.Statement.{statement}
 use Rattle.npdu.proofs.layout.control.Tie as tie
 

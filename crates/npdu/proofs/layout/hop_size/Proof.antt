@@ -1,6 +1,6 @@
 use borrow.Author.Needs.{needs}
-use Rattle.npdu.specs.Size.{hopSize}
 use Rattle.octets.specs.Rules.{tests, flags}
+use Rattle.npdu.specs.Size.{hopSize}
 use Rattle.npdu.proofs.layout.hop_size.Statement.{statement}
 use Rattle.npdu.proofs.layout.hop_size.Tie as tie
 

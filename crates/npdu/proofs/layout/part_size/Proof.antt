@@ -1,6 +1,6 @@
-use Rattle.npdu.specs.Size.{partSize}
-use Rattle.octets.specs.Rules.{tests, flags}
 use borrow.Author.Needs.{needs}
+use Rattle.octets.specs.Rules.{tests, flags}
+use Rattle.npdu.specs.Size.{partSize}
 use Rattle.npdu.proofs.layout.part_size.Statement.{statement}
 use Rattle.npdu.proofs.layout.part_size.Tie as tie
 

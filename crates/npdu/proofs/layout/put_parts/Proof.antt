@@ -1,11 +1,11 @@
-use Rattle.npdu.proofs.Sizes.{fault-none, part-length}
+use native.Mathlib.Omega.{arith}
+use mathlib.Core.Path.{sym, _∙_}
+use denote.Ref.{now}
+use borrow.Author.Needs.{needs}
+use Rattle.octets.specs.Splice.{splice-then}
 use Rattle.npdu.specs.Layout.{partOctets, partsOctets, Kept}
 use Rattle.npdu.specs.Size.{partsSize}
-use Rattle.octets.specs.Splice.{splice-then}
-use denote.Ref.{now}
-use mathlib.Core.Path.{_≡_, sym, _∙_}
-use native.Mathlib.Omega.{arith}
-use borrow.Author.Needs.{needs}
+use Rattle.npdu.proofs.Sizes.{fault-none, part-length}
 use Rattle.npdu.proofs.layout.put_parts.Statement.{statement}
 use Rattle.npdu.proofs.layout.put_parts.Tie as tie
 
@@ -19,9 +19,9 @@ put-parts-spec =
     tie.close
     (tie.spec
     (λ c κs. search needs)
-    (λ c κs. let st = c .before .before .before .before .before in let r = fault-none (st .args .h) (st .pre .0) in ((λ t. r .destination t .len-range), omega (arith, st .pre .1)))
+    (λ c κs. let st = c .before .before .before .before .before in ((λ t. fault-none (st .args .h) (st .pre .0) .destination t .len-range), omega (arith, st .pre .1)))
     (λ c. search needs)
-    (λ c κs. let st = c .before .before .before .before .before .before .before .before .before in let r = fault-none (st .args .h) (st .pre .0) in ((λ t. r .origin t .len-range), omega (arith, st .pre .1)))
+    (λ c κs. let st = c .before .before .before .before .before .before .before .before .before in ((λ t. fault-none (st .args .h) (st .pre .0) .origin t .len-range), omega (arith, st .pre .1)))
     (λ c. search needs)
     (λ c. let st = c .before .before .before .before .before .before .before .before .before .before .before .before in
     let h = st .args .h in
@@ -30,4 +30,4 @@ put-parts-spec =
     let l = part-length (h .source) (h .snet) (h .slen) (h .sadr) (λ t. r .origin t .len-range) (kept st .source-kept) in
     let e = k ∙ sym (c .before .before .before .before .before .before .before .before .part-size .ensures .0) in
     splice-then (now (st .args .out)) (st .args .at) (partOctets (h .dest) (h .dnet) (h .dlen) (h .dadr)) _ (omega (arith, st .pre .1, k, l))
-    (c .before .before .before .before .before .before .put-part-if .ensures) (rw e (c .before .before .put-part-if2 .ensures))))
+    (c .before .before .before .before .before .before .put-part .ensures) (rw e (c .before .before .put-part2 .ensures))))

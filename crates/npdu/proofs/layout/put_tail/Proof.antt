@@ -1,28 +1,33 @@
-use Rattle.npdu.proofs.Sizes.{hop-length, message-length}
-use Rattle.npdu.specs.Layout.{hopOctets, tailOctets}
-use Rattle.npdu.specs.Size.{tailSize}
-use Rattle.octets.specs.Splice.{splice-then}
-use denote.Ref.{now}
-use mathlib.Core.Path.{_≡_, sym, _∙_}
 use native.Mathlib.Omega.{arith}
+use mathlib.Core.List.{[], _∷_}
+use mathlib.Core.Path.{_≡_}
+use lib.ListN.{length-set}
+use denote.Ref.{now}
 use borrow.Author.Needs.{needs}
+use Rattle.octets.specs.Choice.{given-true, given-false}
+use Rattle.octets.specs.Splice.{splice-set, splice-then}
+use Rattle.npdu.specs.Layout.{hopOctets, messageOctets, tailOctets}
+use Rattle.npdu.specs.Size.{hopSize, tailSize}
+use Rattle.npdu.proofs.Sizes.{message-length}
 use Rattle.npdu.proofs.layout.put_tail.Statement.{statement}
 use Rattle.npdu.proofs.layout.put_tail.Tie as tie
 
 pub put-tail-spec : {M : Type 1} → statement M
-unfolding tailOctets tailSize
+unfolding hopOctets hopSize tailOctets tailSize
 put-tail-spec =
     tie.close
     (tie.spec
-    (λ c κs. search needs)
-    (λ c κs. omega (arith, c .before .before .before .pre))
+    (λ c. let e : hopSize (c .before .before .args .h .dest) ≡ 1 = given-true _ _ _ (c .if1 .taken) in omega (arith, e, c .before .before .pre))
     (λ c. search needs)
-    (λ c κs. omega (arith, c .before .before .before .before .before .before .before .pre))
-    (λ c. search needs)
-    (λ c. let st = c .before .before .before .before .before .before .before .before .before .before in
+    (λ c κs. let e : hopSize (c .before .before .before .args .h .dest) ≡ 1 = given-true _ _ _ (c .before .if1 .taken) in simp length-set (omega (arith, e, c .before .before .before .pre)))
+    (λ c. omega (arith, simp length-set at (c .before .before .put-message .kept)))
+    (λ c. let st = c .before .before .before .before .before .before in
     let h = st .args .h in
-    let k = hop-length (h .dest) (h .hops) in
-    let l = message-length (h .message) (h .kind) (h .vendor) in
-    let e = k ∙ sym (c .before .before .before .before .before .before .before .before .hop-size .ensures .0) in
-    splice-then (now (st .args .out)) (st .args .at) (hopOctets (h .dest) (h .hops)) _ (omega (arith, st .pre, k, l))
-    (c .before .before .before .before .before .before .put-hops .ensures) (rw e (c .before .before .put-message .ensures))))
+    let o = now (st .args .out) in
+    let e : hopSize (h .dest) ≡ 1 = given-true _ _ _ (c .before .before .before .before .if1 .taken) in
+    rw (given-true _ _ _ (c .before .before .before .before .if1 .taken))
+    (splice-then o (st .args .at) (h .hops ∷ []) (messageOctets (h .message) (h .kind) (h .vendor)) (omega (arith, e, st .pre, message-length (h .message) (h .kind) (h .vendor)))
+    (splice-set o (st .args .at) (h .hops) (omega (arith, e, st .pre))) (c .before .before .put-message .ensures)))
+    (λ c κs. let e : hopSize (c .before .before .before .args .h .dest) ≡ 0 = given-false _ _ _ (c .before .if1 .left) in omega (arith, e, c .before .before .before .pre))
+    (λ c. search needs)
+    (λ c. rw (given-false _ _ _ (c .before .before .before .before .if1 .left)) (c .before .before .put-message2 .ensures)))

@@ -1,6 +1,6 @@
 use native.Mathlib.Omega.{arith}
-use Rattle.npdu.proofs.Fill.{filled}
 use borrow.Author.Needs.{needs}
+use Rattle.npdu.proofs.Fill.{filled}
 use Rattle.npdu.proofs.part.address.Statement.{statement}
 use Rattle.npdu.proofs.part.address.Tie as tie
 

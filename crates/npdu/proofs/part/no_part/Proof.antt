@@ -1,6 +1,5 @@
-use borrow.Author.Needs.{needs}
-use Rattle.npdu.specs.Read.{noPart}
 use mathlib.Core.Path.{refl}
+use Rattle.npdu.specs.Read.{noPart}
 use Rattle.npdu.proofs.part.no_part.Statement.{statement}
 use Rattle.npdu.proofs.part.no_part.Tie as tie
 

@@ -1,6 +1,6 @@
-use Rattle.npdu.specs.Read.{partOf}
-use Rattle.octets.specs.Rules.{tests}
 use borrow.Author.Needs.{needs}
+use Rattle.octets.specs.Rules.{tests}
+use Rattle.npdu.specs.Read.{partOf}
 use Rattle.npdu.proofs.part.part_at.Statement.{statement}
 use Rattle.npdu.proofs.part.part_at.Tie as tie
 

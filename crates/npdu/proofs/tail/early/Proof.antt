@@ -1,6 +1,5 @@
-use borrow.Author.Needs.{needs}
-use Rattle.npdu.specs.Read.{ended}
 use mathlib.Core.Path.{refl}
+use Rattle.npdu.specs.Read.{ended}
 use Rattle.npdu.proofs.tail.early.Statement.{statement}
 use Rattle.npdu.proofs.tail.early.Tie as tie
 

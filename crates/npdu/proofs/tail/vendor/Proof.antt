@@ -1,6 +1,6 @@
-use Rattle.npdu.specs.Read.{vendorAt, ended}
-use Rattle.octets.specs.Rules.{tests}
 use borrow.Author.Needs.{needs}
+use Rattle.octets.specs.Rules.{tests}
+use Rattle.npdu.specs.Read.{vendorAt, ended}
 use Rattle.npdu.proofs.tail.vendor.Statement.{statement}
 use Rattle.npdu.proofs.tail.vendor.Tie as tie
 

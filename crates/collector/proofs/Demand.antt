@@ -1,0 +1,79 @@
+-- Demand 3 for the whole box, and what document 01 says of segments, at the page's key.
+use Prim.Native.Nat.{ℕ, _+_, _*_, _≤_, _<_}
+use mathlib.Core.Path.{_≡_, refl, ap, _∙_}
+use mathlib.Core.Bool.{true, false}
+use mathlib.Core.List.{List, [], _∷_, _++_}
+use mathlib.Core.Logic.{_⊎_}
+use mathlib.Core.Option.{Option, some}
+use lib.Dec.{eqb}
+use lib.ListN.{length}
+use borrow.Author.Tests.{eq-eqb}
+use Rattle.apdu.specs.Fields.{segmentOf}
+use Rattle.apdu.specs.declared.Pdu.{Pdu}
+use Rattle.runs.specs.Run.{Event, Run, wire, Trace, ended, walk}
+use Rattle.runs.specs.Run.Order.{trunk}
+use Rattle.runs.specs.Offered.{Offered}
+use Rattle.frames.specs.declared.Receiver.{Receiver}
+use Rattle.trunk.specs.Reading.{Out, heldOf, readFrom}
+use Rattle.trunk.specs.Demand.{reading}
+use Rattle.messages.specs.Slots as Messages
+use Rattle.messages.specs.Slots.{room, boxed, slotOf, slotAt, part}
+use Rattle.messages.specs.Rows.{Done, rebuild}
+use Rattle.messages.specs.History.{begun, touches, Rebuilt}
+use Rattle.messages.specs.Sound.{Good}
+use Rattle.messages.proofs.Laws.{repeated, disjoint}
+use Rattle.rebuild.specs.View.{keys}
+use Rattle.rebuild.specs.declared.Key.{Key}
+use Rattle.rebuild.proofs.Page.{key-laws, fair, four, page-others}
+use Rattle.recordings.specs.Frames.{rules, history, Completes}
+use Rattle.recordings.proofs.Demand.{whole, offerable}
+use Rattle.recordings.proofs.Deeds as Deeds
+use Rattle.collector.specs.Report.{refusal}
+use Rattle.collector.specs.Frame.{Content, segmentFrom, bacnet}
+use Rattle.collector.specs.Frame.Content.{message}
+use Rattle.collector.specs.Acting.{segmentActs, acting}
+use Rattle.collector.specs.Calls.{slotCount, box, slotsOf}
+use Rattle.collector.specs.Offering.{Passes, End, Called}
+use Rattle.collector.specs.declared.Collector.{Collector}
+use Rattle.collector.proofs.Actions.{acts-segment}
+use Rattle.collector.proofs.Alike.{called}
+
+module _ (c : Collector) (area : List ℕ) (P : Passes c) (z : length area ≡ 65536) where
+  -- "one run of trunk octets with silences and forget orders at fixed places, from any state that passes 59": "Then reports, final state and
+  -- message area are those that a reading of the whole recording by position gives."
+  pub demand3 : {run : Run} {e : End} → Called (length (heldOf (c .receiver))) c area run e → e ≡ reading (rules keys bacnet) (c .receiver) (slotsOf c) area run
+  demand3 o = whole keys key-laws bacnet slotCount (λ n. refl) (P .receiver) (P .slots) (eq-eqb (length area) 65536 z) (called o)
+
+  -- every run can be offered to the box
+  pub offered : (run : Run) → (e : End) × Offered box (length (heldOf (c .receiver))) (c .receiver) (slotsOf c) area run e
+  offered run = offerable keys key-laws bacnet slotCount (λ n. refl) run (c .receiver) (slotsOf c) area (P .receiver) (P .slots) (eq-eqb (length area) 65536 z)
+
+  -- "Each message begun and completed in the run is its key's accepted segments since its latest segment 0, joined in number order": t is the
+  -- reading of the whole trunk, front the run up to the place where the last segment ends.
+  pub messages : (all front : Run) (e : Event) (o : Out) (g : Messages.Segment Key)
+      → (let t = readFrom (c .receiver) (wire all) in
+      let p = length (heldOf (c .receiver)) in
+      let run = front ++ (trunk e ∷ []) in
+      ended (p + length (wire front)) t ≡ some o → bacnet .segmentOf o ≡ some g → (k : Key) (i n : ℕ)
+      → Completes (history keys bacnet t p (slotsOf c) area run) k i n → begun keys k (history keys bacnet t p (slotsOf c) area run) ≡ true
+      → Rebuilt keys k (history keys bacnet t p (slotsOf c) area run) (walk (rules keys bacnet) t p (slotsOf c) area run .area) i n)
+  messages all front e o g here is k i n =
+      Deeds.message keys key-laws bacnet (readFrom (c .receiver) (wire all)) (length (heldOf (c .receiver))) (slotsOf c) area (fair (c .slots) area (P .slots) z) front e o g here is k i n
+
+  -- a repeated or late segment changes nothing: 52
+  pub late : (head : List ℕ) (p : Pdu) (a : List ℕ) (i : ℕ) → segmentOf p .seg ≡ true → slotOf keys (segmentFrom head p a .key) (slotsOf c) ≡ some i
+      → eqb (segmentOf p .number) 0 ≡ false → eqb (segmentOf p .number) (slotAt keys (slotsOf c) i .next) ≡ false
+      → acting head (message p a) (slotsOf c) area ≡ (refusal head 52, slotsOf c, area)
+  unfolding segmentActs
+  late head p a i s k n m =
+      acts-segment head p a (slotsOf c) area s
+      ∙ rw (repeated keys (segmentFrom head p a) (boxed (slotsOf c) area) i k n m)
+
+  -- two keys never share octets: what two open slots hold lies apart
+  pub apart : (i j : ℕ) → i < 4 → j < 4 → (slotAt keys (slotsOf c) i .key ≡ slotAt keys (slotsOf c) j .key → ⊥)
+      → (room * i + slotAt keys (slotsOf c) i .held ≤ room * j) ⊎ (room * j + slotAt keys (slotsOf c) j .held ≤ room * i)
+  apart i j li lj = disjoint keys (boxed (slotsOf c) area) (fair (c .slots) area (P .slots) z) i j (rw (four (c .slots) area (P .slots) z) li) (rw (four (c .slots) area (P .slots) z) lj)
+
+  -- a slot that a segment's answer does not name keeps its 16,384 octets
+  pub elsewhere : (g : Messages.Segment Key) (j : ℕ) → j < 4 → (let d = rebuild keys g (boxed (slotsOf c) area) in touches (d .answer) j ≡ false → part (room * j) room (d .box .area) ≡ part (room * j) room area)
+  elsewhere g j l = page-others (c .slots) area (P .slots) z g j l

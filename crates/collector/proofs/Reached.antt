@@ -1,0 +1,97 @@
+-- 59 passes a fresh collector, and every state that a run reaches.
+use Prim.Native.Nat.{ℕ, _+_, _-_}
+use mathlib.Core.Path.{_≡_, refl}
+use mathlib.Core.Bool.{true}
+use mathlib.Core.List.{List, [], _∷_}
+use mathlib.Core.Option.{Option, none, some}
+use lib.ListN.{length, length-replicate}
+use Rattle.octets.specs.Choice.{pick-case}
+use Rattle.runs.specs.Run.{Run}
+use Rattle.runs.specs.Run.Event.{octet, silence}
+use Rattle.runs.specs.Offered.{Answer, answer, caught, spoken, Offered}
+use Rattle.runs.specs.Offered.Offered.{over, fed, still, forgot}
+use Rattle.frames.specs.declared.Receiver.{Receiver}
+use Rattle.frames.specs.declared.Fed.{Fed}
+use Rattle.frames.specs.declared.Fell.{Fell}
+use Rattle.frames.specs.Step.{soundOf, stepOf, reportsOf, feedFrom, feedOf, silenceOf, stillOf}
+use Rattle.trunk.specs.Reading.{Out}
+use Rattle.trunk.specs.Demand.{Sound, Keeps, outOf}
+use Rattle.trunk.proofs.Demand.{sound-on}
+use Rattle.messages.specs.Slots as Messages
+use Rattle.rebuild.specs.View.{keys}
+use Rattle.rebuild.specs.declared.Key.{Key}
+use Rattle.rebuild.proofs.Page.{key-laws, fresh-passes}
+use Rattle.recordings.specs.Frames.{rules}
+use Rattle.recordings.proofs.Demand as Recordings
+use Rattle.collector.specs.Report.{damaged}
+use Rattle.collector.specs.Frame.{bacnet}
+use Rattle.collector.specs.Calls.{slotCount, passing, sized, box, freshCollector, slotsOf, Answered}
+use Rattle.collector.specs.Offering.{Passes, End, Called}
+use Rattle.collector.specs.declared.Collector.{Collector}
+use Rattle.collector.proofs.Alike.{called}
+
+pub fresh : Passes freshCollector
+fresh = record { receiver = record { left = refl; head = length-replicate {A = ℕ} 5 0; store = length-replicate {A = ℕ} 501 0 }; slots = fresh-passes }
+
+pub keeps : Keeps (rules keys bacnet) damaged passing sized
+keeps = Recordings.keeps keys key-laws bacnet slotCount (λ n. refl)
+
+-- the receiver
+from-sound : (xs : List ℕ) (n : ℕ) (r : Receiver) → Sound r → Sound (feedFrom n r xs .receiver)
+unfolding stepOf
+from-sound [] n r h = h
+from-sound (x ∷ xs) n r h =
+    let k = sound-on r (octet x) h in
+    pick-case (λ (f : Fed). Sound (f .receiver)) (reportsOf (stepOf r x .outcome)) k (from-sound xs (n + 1) (stepOf r x .receiver) k)
+
+feed-sound : (r : Receiver) (xs : List ℕ) → Sound r → Sound (feedOf r xs .receiver)
+unfolding feedOf
+feed-sound r xs h = pick-case (λ (f : Fed). Sound (f .receiver)) (soundOf r) (from-sound xs 0 r h) h
+
+silence-sound : (r : Receiver) → Sound r → Sound (silenceOf r .receiver)
+unfolding silenceOf stillOf
+silence-sound r h = rw (h .left) (sound-on r silence h)
+
+-- what 59 and 60 ask, of an answer
+pub record Fair (m : Receiver) (s : List (Messages.Slot Key)) (a : List ℕ) : Type 0 where
+  pub receiver : Sound m
+  pub slots : passing s ≡ true
+  pub area : sized a ≡ true
+
+abbrev FairAnswer : Answered → Type 0
+FairAnswer d = Fair (d .state) (d .slots) (d .area)
+
+module _ {m : Receiver} {s : List (Messages.Slot Key)} {a : List ℕ} (F : Fair m s a) where
+  caught-fair : (x : Option Out) (n : ℕ) → FairAnswer (caught (rules keys bacnet) x n m s a (answer n none m s a))
+  caught-fair none n = F
+  caught-fair (some o) n =
+      record { receiver = F .receiver; slots = keeps .slots o s a (F .slots) (F .area); area = keeps .area o s a (F .slots) (F .area) }
+
+  free-fair : (n : ℕ) → Fair m (box .free n m s) a
+  free-fair n = rw (F .slots, F .receiver .left) (record { receiver = F .receiver; slots = keeps .free n s (F .slots); area = F .area })
+
+  still-fair : FairAnswer (box .still m s a)
+  still-fair = rw (F .slots) (record { receiver = silence-sound m (F .receiver); slots = F .slots; area = F .area })
+
+feed-fair : {m : Receiver} {s : List (Messages.Slot Key)} {a : List ℕ} → Fair m s a → (xs : List ℕ) → FairAnswer (box .feed m s a xs)
+feed-fair {m} {s} {a} F xs =
+    let f = feedOf m xs in
+    let G : Fair (f .receiver) s a = record { receiver = feed-sound m xs (F .receiver); slots = F .slots; area = F .area } in
+    rw (F .area, F .slots) (caught-fair G (outOf (f .outcome) (f .receiver)) (f .eaten))
+
+abbrev FairEnd : End → Type 0
+FairEnd e = Fair (e .state) (e .slots) (e .area)
+
+spoken-fair : (p : ℕ) (x : Option (List ℕ)) (e : End) → FairEnd e → FairEnd (spoken p x e)
+spoken-fair p none e h = h
+spoken-fair p (some r) e h = record { receiver = h .receiver; slots = h .slots; area = h .area }
+
+ended-fair : {p : ℕ} {m : Receiver} {s : List (Messages.Slot Key)} {a : List ℕ} {run : Run} {e : End} → Fair m s a → Offered box p m s a run e → FairEnd e
+ended-fair F over = F
+ended-fair {p} {m} {s} {a} F (fed {e = e} piece run o) = let d = box .feed m s a piece in spoken-fair (p + d .eaten - 1) (d .said) e (ended-fair (feed-fair F piece) o)
+ended-fair {p} {m} {s} {a} F (still {e = e} o) = spoken-fair p (box .still m s a .said) e (ended-fair (still-fair F) o)
+ended-fair F (forgot n o) = ended-fair (free-fair F n) o
+
+-- after any run, however its calls are made
+pub reached : {p : ℕ} {c : Collector} {area : List ℕ} {run : Run} {e : End} → Passes c → sized area ≡ true → Called p c area run e → Fair (e .state) (e .slots) (e .area)
+reached P z o = ended-fair (record { receiver = P .receiver; slots = P .slots; area = z }) (called o)

@@ -1,0 +1,13 @@
+use Rattle.collector.proofs.Sixteen.{no-head}
+use mathlib.Core.Path.{_∙_}
+use borrow.Author.Needs.{needs}
+use Rattle.collector.proofs.report.put_damage.Statement.{statement}
+use Rattle.collector.proofs.report.put_damage.Tie as tie
+
+pub put-damage-spec : {M : Type 1} → statement M
+put-damage-spec =
+    tie.close
+    (tie.spec
+    (λ c κs. search needs)
+    (λ c. search needs)
+    (λ c. c .before .before .put-short .ensures ∙ no-head _))

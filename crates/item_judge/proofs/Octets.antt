@@ -1,0 +1,40 @@
+-- The items that records name in a source of octets are laid out as octets.
+use Prim.Native.Nat.{ℕ, zero, suc, _+_, _≤_}
+use native.Mathlib.Omega.{arith}
+use mathlib.Core.List.{List, [], _∷_, _++_}
+use lib.ListN.{length, take, drop, length-take, List·getD-eq-default}
+use lib.Seq.{getD-take, getD-drop}
+use lib.Dec.{ltb, eqb, lit<}
+use borrow.Author.Tests.{ltb-true, ltb-false}
+use Rattle.octets.specs.Choice.{pick-case, by-test}
+use Rattle.octets.specs.Reading.{Octets}
+use Rattle.tags.specs.Layout.{Thing, encode, contentsOf}
+use Rattle.tags.proofs.Octets.{encode-octets}
+use Rattle.items.specs.Records.{Rec, thingOf, thingsOf}
+use Rattle.items.specs.Grammar.{AllValid, encodeAll}
+
+octets-append : (xs ys : List ℕ) → Octets xs → Octets ys → Octets (xs ++ ys)
+octets-append [] ys a b i = b i
+octets-append (x ∷ xs) ys a b zero = a 0
+octets-append (x ∷ xs) ys a b (suc i) = octets-append xs ys (λ j. a (suc j)) b i
+
+octets-part : (s : List ℕ) (p l : ℕ) → Octets s → Octets (take l (drop p s))
+octets-part s p l os i =
+    by-test (ltb i l)
+    (λ e. rw (getD-take l (drop p s) i 0 (ltb-true i l e), getD-drop p s i 0) (os (p + i)))
+    (λ e. let h : length (take l (drop p s)) ≤ i = rw length-take (omega (arith, ltb-false i l e)) in rw (List·getD-eq-default (take l (drop p s)) 0 h) (lit< tt))
+
+octets-contents : (source : List ℕ) → Octets source → (r : Rec) → Octets (contentsOf (thingOf source r))
+unfolding thingOf
+octets-contents source os r =
+    let P : Thing → Type 0 = λ t. Octets (contentsOf t) in
+    let none : Octets [] = λ i. lit< tt in
+    let xs = octets-part source (r .place) (r .len) os in
+    pick-case P (eqb (r .kind) 0) (pick-case P (eqb (r .number) 1) none xs)
+    (pick-case P (eqb (r .kind) 1) xs (pick-case P (eqb (r .kind) 2) none none))
+
+pub octets-all : (source : List ℕ) → Octets source → (rs : List Rec) → AllValid (thingsOf source rs) → Octets (encodeAll (thingsOf source rs))
+unfolding thingsOf encodeAll
+octets-all source os [] v i = lit< tt
+octets-all source os (r ∷ rs) v i =
+    octets-append (encode (thingOf source r)) (encodeAll (thingsOf source rs)) (encode-octets (thingOf source r) (v .0) (octets-contents source os r)) (octets-all source os rs (v .1)) i

@@ -1,0 +1,4 @@
+pub mod Judge
+pub mod Meaning
+pub mod Kinds
+pub mod OneLayout
