@@ -81,7 +81,7 @@ fn differs(a: &[u8], b: &[u8], i: usize) -> u32 {
 }
 
 // "`55 FF 01 02 01 00 00 F5` gives `01 00 01 02 01` and eleven zeros."
-pub fn whole(area: &mut [u8]) -> Tally {
+pub fn whole(area: &mut [u8; 65536]) -> Tally {
     let mut report = [0xAAu8; 16];
     let piece = POLL;
     let f = Collector::fresh().feed(&piece, &mut report, area);
@@ -98,7 +98,7 @@ pub fn whole(area: &mut [u8]) -> Tally {
 }
 
 // 501 data octets are a frame; 502 are damage at the header check octet.
-pub fn lengths(area: &mut [u8]) -> Tally {
+pub fn lengths(area: &mut [u8; 65536]) -> Tally {
     let data = [0u8; 502];
     let mut frame = [0u8; 512];
     let n = trials::frame(1, 2, 1, show::part(&data, 0, 501), &mut frame);
@@ -108,7 +108,7 @@ pub fn lengths(area: &mut [u8]) -> Tally {
 }
 
 // A header check, a length, a data check that are wrong; a silence within a header and within data. What follows is read.
-pub fn damage(area: &mut [u8]) -> Tally {
+pub fn damage(area: &mut [u8; 65536]) -> Tally {
     let piece = POLL;
     let mut ack_frame = ACK;
     ack_frame[28] = 0xC7;
@@ -125,7 +125,7 @@ pub fn damage(area: &mut [u8]) -> Tally {
 }
 
 // 55 55 FF is a preamble. No octet of a damaged header is looked at again, nor the octet that ends it.
-pub fn preamble(area: &mut [u8]) -> Tally {
+pub fn preamble(area: &mut [u8; 65536]) -> Tally {
     Trial::fresh()
         .gives(
             b"\x55\x55\xFF\x01\x02\x01\x00\x00\xF5",
@@ -142,7 +142,7 @@ pub fn preamble(area: &mut [u8]) -> Tally {
 }
 
 // The front of a frame is quiet, and the rest gives the report: five cases.
-fn cut(t: Trial, at: usize, area: &mut [u8]) -> Trial {
+fn cut(t: Trial, at: usize, area: &mut [u8; 65536]) -> Trial {
     let frame = ACK;
     let rest = show::part(&frame, at, 29);
     t.quiet(show::part(&frame, 0, at), area)
@@ -150,7 +150,7 @@ fn cut(t: Trial, at: usize, area: &mut [u8]) -> Trial {
 }
 
 // From an empty front to all but the last octet.
-pub fn cuts(area: &mut [u8]) -> Tally {
+pub fn cuts(area: &mut [u8; 65536]) -> Tally {
     let mut t = Trial::fresh();
     let mut at: usize = 0;
     while at < 29 {
@@ -161,7 +161,7 @@ pub fn cuts(area: &mut [u8]) -> Tally {
 }
 
 // After two octets or more a silence is damage, and what follows is read: six cases.
-fn silenced(t: Trial, at: usize, area: &mut [u8]) -> Trial {
+fn silenced(t: Trial, at: usize, area: &mut [u8; 65536]) -> Trial {
     let frame = ACK;
     let want = if at < 2 { 0 } else { 4 };
     t.quiet(show::part(&frame, 0, at), area)
@@ -169,7 +169,7 @@ fn silenced(t: Trial, at: usize, area: &mut [u8]) -> Trial {
         .gives(&frame, 29, ack(), area)
 }
 
-pub fn silences(area: &mut [u8]) -> Tally {
+pub fn silences(area: &mut [u8; 65536]) -> Tally {
     let mut t = Trial::fresh();
     let mut at: usize = 0;
     while at < 29 {

@@ -4,6 +4,7 @@ use crate::trial::Trial;
 use crate::trial::complete;
 use crate::trial::refused;
 use crate::trial::taken;
+use show::word;
 use trials::Tally;
 
 // From station 3, choice 12, with MOR.
@@ -51,7 +52,7 @@ fn elsewhere(p: Part) -> Part {
 }
 
 // Four keys take four slots; a fifth is refused until a slot is free, and an open key restarts with none free.
-pub fn slots(area: &mut [u8]) -> Tally {
+pub fn slots(area: &mut [u8; 65536]) -> Tally {
     Trial::fresh()
         .segment(more(1, 0), b"\x00", taken(0, 1), area)
         .segment(more(2, 0), b"\x00", taken(1, 1), area)
@@ -68,7 +69,7 @@ pub fn slots(area: &mut [u8]) -> Tally {
 }
 
 // A segment that came before is not the next, and changes nothing.
-pub fn repeated(area: &mut [u8]) -> Tally {
+pub fn repeated(area: &mut [u8; 65536]) -> Tally {
     Trial::fresh()
         .segment(more(1, 0), b"\x00", taken(0, 1), area)
         .segment(more(1, 1), b"\x00", taken(0, 2), area)
@@ -78,7 +79,7 @@ pub fn repeated(area: &mut [u8]) -> Tally {
 }
 
 // Number 0 begins the message anew in its slot, under another choice too: the two openings are gone.
-pub fn restart(area: &mut [u8]) -> Tally {
+pub fn restart(area: &mut [u8; 65536]) -> Tally {
     let t = Trial::fresh()
         .segment(more(1, 0), b"\x3E", taken(0, 1), area)
         .segment(more(1, 1), b"\x3E", taken(0, 2), area)
@@ -86,16 +87,13 @@ pub fn restart(area: &mut [u8]) -> Tally {
         .segment(chosen(last(1, 1), 14), b"\x00", complete(0, 3), area)
         .forgets(0, 56)
         .tally;
-    if area.len() == 65536 {
-        return t.see(area[0] as u32, 0x11)
-            .see(area[1] as u32, 0x10)
-            .see(area[2] as u32, 0);
-    }
-    t
+    t.see(word(area[0]), 0x11)
+        .see(word(area[1]), 0x10)
+        .see(word(area[2]), 0)
 }
 
 // A key that is not open, a number that is not the next, another choice; two keys do not disturb each other.
-pub fn rows(area: &mut [u8]) -> Tally {
+pub fn rows(area: &mut [u8; 65536]) -> Tally {
     Trial::fresh()
         .segment(more(1, 1), b"\x00", refused(51), area)
         .segment(more(1, 0), b"\x00", taken(0, 1), area)
@@ -109,18 +107,18 @@ pub fn rows(area: &mut [u8]) -> Tally {
 }
 
 // Segments 0 to 254 of one octet each.
-fn to_254(fresh: Trial, area: &mut [u8]) -> Trial {
+fn to_254(fresh: Trial, area: &mut [u8; 65536]) -> Trial {
     let mut t = fresh;
     let mut n: u8 = 0;
     while n < 255 {
-        t = t.segment(more(1, n), b"\x00", taken(0, n as u32 + 1), area);
+        t = t.segment(more(1, n), b"\x00", taken(0, word(n) + 1), area);
         n += 1;
     }
     t
 }
 
 // Number 255 can only be the last; with MOR it frees the slot.
-pub fn numbers(area: &mut [u8]) -> Tally {
+pub fn numbers(area: &mut [u8; 65536]) -> Tally {
     let t = to_254(Trial::fresh(), area)
         .segment(more(1, 255), b"\x00", refused(55), area)
         .forgets(0, 56);
@@ -131,21 +129,21 @@ pub fn numbers(area: &mut [u8]) -> Tally {
 }
 
 // Segments 0 to 32 of 494 octets, 16,302 in all: the front of one octet string that fills the room.
-fn to_16302(fresh: Trial, area: &mut [u8]) -> Trial {
+fn to_16302(fresh: Trial, area: &mut [u8; 65536]) -> Trial {
     let mut octets = [0u8; 494];
     trials::lay(&mut octets, 0, b"\x65\xFE\x3F\xFC");
     let mut t = fresh.segment(more(1, 0), &octets, taken(0, 494), area);
     let rest = [0u8; 494];
     let mut n: u8 = 1;
     while n < 33 {
-        t = t.segment(more(1, n), &rest, taken(0, (n as u32 + 1) * 494), area);
+        t = t.segment(more(1, n), &rest, taken(0, (word(n) + 1) * 494), area);
         n += 1;
     }
     t
 }
 
 // 82 octets more are 16,384 and 83 are too many, which frees the slot; empty segments are taken.
-pub fn full(area: &mut [u8]) -> Tally {
+pub fn full(area: &mut [u8; 65536]) -> Tally {
     let octets = [0u8; 83];
     let t = to_16302(Trial::fresh(), area).segment(
         last(1, 33),
@@ -168,7 +166,7 @@ pub fn full(area: &mut [u8]) -> Tally {
 }
 
 // The message is refused with its tag number, and its slot is free.
-pub fn bad_tags(area: &mut [u8]) -> Tally {
+pub fn bad_tags(area: &mut [u8; 65536]) -> Tally {
     Trial::fresh()
         .segment(more(1, 0), b"\x3E", taken(0, 1), area)
         .segment(last(1, 1), b"\x4F", refused(35), area)

@@ -1,5 +1,6 @@
 // A collector under trial: its state, and the cases so far.
 use collector::Collector;
+use show::word;
 use trials::Tally;
 
 pub struct Trial {
@@ -63,15 +64,20 @@ pub fn damaged(number: u8) -> Want {
 
 // A report against what it should say: kind and number, slot, length.
 fn compared(t: Tally, report: [u8; 16], want: Want) -> Tally {
-    let kind = (report[0] as u32) * 100 + (report[1] as u32);
-    let length = (report[10] as u32) * 256 + (report[11] as u32);
-    t.see(kind, (want.kind as u32) * 100 + (want.number as u32))
-        .see(report[7] as u32, want.slot as u32)
+    let kind = word(report[0]) * 100 + word(report[1]);
+    let length = word(report[10]) * 256 + word(report[11]);
+    t.see(kind, word(want.kind) * 100 + word(want.number))
+        .see(word(report[7]), word(want.slot))
         .see(length, want.total)
 }
 
 pub fn bit(b: bool) -> u32 {
     if b { 1 } else { 0 }
+}
+
+// A report's number, 0 where there is none.
+fn said(reported: bool, number: u8) -> u32 {
+    if reported { word(number) } else { 0 }
 }
 
 impl Trial {
@@ -84,7 +90,7 @@ impl Trial {
     }
 
     // A piece that must end in a report, and be eaten so far: four cases.
-    pub fn gives(self, piece: &[u8], eaten: usize, want: Want, area: &mut [u8]) -> Trial {
+    pub fn gives(self, piece: &[u8], eaten: usize, want: Want, area: &mut [u8; 65536]) -> Trial {
         let mut report = [0u8; 16];
         let f = self.state.feed(piece, &mut report, area);
         let state = f.state;
@@ -96,7 +102,7 @@ impl Trial {
     }
 
     // A piece that must be eaten without a report: one case.
-    pub fn quiet(self, piece: &[u8], area: &mut [u8]) -> Trial {
+    pub fn quiet(self, piece: &[u8], area: &mut [u8; 65536]) -> Trial {
         let mut report = [0u8; 16];
         let f = self.state.feed(piece, &mut report, area);
         let state = f.state;
@@ -110,7 +116,7 @@ impl Trial {
         let mut report = [0u8; 16];
         let f = self.state.silence(&mut report);
         let state = f.state;
-        let t = self.tally.see(bit(f.reported) * (report[1] as u32), want);
+        let t = self.tally.see(said(f.reported, report[1]), want);
         Trial { state, tally: t }
     }
 
@@ -118,12 +124,12 @@ impl Trial {
     pub fn forgets(self, slot: u8, want: u32) -> Trial {
         let f = self.state.forget(slot);
         let state = f.state;
-        let t = self.tally.see(f.number as u32, want);
+        let t = self.tally.see(word(f.number), want);
         Trial { state, tally: t }
     }
 
     // A segment in a frame of its own: four cases.
-    pub fn segment(self, p: Part, octets: &[u8], want: Want, area: &mut [u8]) -> Trial {
+    pub fn segment(self, p: Part, octets: &[u8], want: Want, area: &mut [u8; 65536]) -> Trial {
         let mut frame = [0u8; 511];
         let n = framed(p, octets, &mut frame);
         self.gives(show::part(&frame, 0, n), n, want, area)

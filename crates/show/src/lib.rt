@@ -1,5 +1,13 @@
 // What the programs print: text, numbers and octets on standard output; and parts of octets.
 use libc::STDOUT_FILENO;
+ghost use Prim.Native.Nat.{_≤_};
+
+// An octet as a number to reckon with.
+pub fn word(x: u8) -> u32
+    ensures { λ r. ⌜ r ≤ 255 ⌝ }
+{
+    x as u32
+}
 
 // Text to standard output.
 pub fn text(s: &[u8]) {
