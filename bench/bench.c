@@ -1,0 +1,256 @@
+/* Runs one listener over a recording. Built twice for x86-64 Linux without a C library, once with the proved library and once
+   with -DPLAIN, so that all that is counted is the listener, this loop and the four functions at the end.
+
+     bench reports FILE PIECE      a line for each report: the octets eaten so far, the 16 octets, a hash of a completed message;
+                                   last a hash of the message area
+     bench stack FILE PIECE        the largest stack that a call used, in octets
+     bench sizes                   the size of the state
+     bench run FILE PIECE RUNS     feeds the first RUNS runs of octets (silences and forget orders end a run), and says nothing
+
+   PIECE is the most octets that a call is lent. */
+#ifdef PLAIN
+#include "plain.h"
+#else
+#include "hitchbarley.h"
+#endif
+#include <stddef.h>
+#include <stdint.h>
+
+enum { AREA = 65536, MOST = 1 << 18, STACK = 1 << 18 };
+
+static uint8_t report[16], area[AREA], octets[MOST], file[4 * MOST];
+static struct { uint32_t at; uint8_t kind, value; } events[MOST]; /* each after so many octets */
+static size_t octet_count, event_count;
+
+/* ---- the listener */
+
+#ifdef PLAIN
+static struct plain state;
+static void fresh(void) { plain_fresh(&state); }
+static size_t feed(const uint8_t *s, size_t n, int *reported) { return plain_feed(&state, s, n, report, area, reported); }
+static int silence(void) { return plain_silence(&state, report); }
+static void forget(uint8_t slot) { plain_forget(&state, slot); }
+#else
+#include "proved.h"
+#endif
+
+/* ---- Linux, for x86-64 */
+
+static long call(long number, long a, long b, long c)
+{
+    long r;
+    __asm__ volatile("syscall" : "=a"(r) : "a"(number), "D"(a), "S"(b), "d"(c) : "rcx", "r11", "memory");
+    return r;
+}
+
+static void leave(int status)
+{
+    for (;;) call(231, status, 0, 0);
+}
+
+static void say(const char *s)
+{
+    size_t n = 0;
+    while (s[n]) n++;
+    call(1, 1, (long)s, (long)n);
+}
+
+static void say_number(uint64_t v, unsigned base, unsigned width)
+{
+    char digits[24];
+    int at = 23;
+    digits[at] = 0;
+    do {
+        digits[--at] = "0123456789ABCDEF"[v % base];
+        v /= base;
+    } while (v || 23 - at < (int)width);
+    say(digits + at);
+}
+
+static uint64_t number_of(const char *s)
+{
+    uint64_t v = 0;
+    while (*s) v = v * 10 + (uint64_t)(*s++ - '0');
+    return v;
+}
+
+static int same(const char *a, const char *b)
+{
+    while (*a && *a == *b) a++, b++;
+    return *a == *b;
+}
+
+/* ---- the recording */
+
+static void load(const char *path)
+{
+    long fd = call(2, (long)path, 0, 0), n = 0, got;
+    if (fd < 0) {
+        say("bench: the recording cannot be opened\n");
+        leave(2);
+    }
+    while ((got = call(0, fd, (long)file + n, (long)sizeof file - n)) > 0) n += got;
+    for (long i = 0; i + 4 <= n; i += 4) {
+        if (file[i] == 0)
+            octets[octet_count++] = file[i + 1];
+        else {
+            events[event_count].at = (uint32_t)octet_count;
+            events[event_count].kind = file[i];
+            events[event_count++].value = file[i + 1];
+        }
+    }
+}
+
+/* ---- feeding */
+
+static int telling;
+
+static uint32_t hash(const uint8_t *s, size_t n)
+{
+    uint32_t h = 2166136261u;
+    for (size_t i = 0; i < n; i++) h = (h ^ s[i]) * 16777619u;
+    return h;
+}
+
+static void tell(size_t eaten)
+{
+    if (!telling) return;
+    say_number(eaten, 10, 1);
+    for (int i = 0; i < 16; i++) {
+        say(" ");
+        say_number(report[i], 16, 2);
+    }
+    if (report[0] == 5) {
+        say(" ");
+        say_number(hash(area + (size_t)16384 * report[7], (size_t)report[10] << 8 | report[11]), 16, 8);
+    }
+    say("\n");
+}
+
+static void feed_run(size_t from, size_t to, size_t piece)
+{
+    while (from < to) {
+        size_t end = piece < to - from ? from + piece : to;
+        while (from < end) {
+            int reported = 0;
+            from += feed(octets + from, end - from, &reported);
+            if (reported) tell(from);
+        }
+    }
+}
+
+static size_t piece, runs;
+
+static void all(void)
+{
+    size_t from = 0;
+    fresh();
+    for (size_t i = 0; i < runs && i <= event_count; i++) {
+        size_t to = i < event_count ? events[i].at : octet_count;
+        feed_run(from, to, piece);
+        from = to;
+        if (i == event_count) return;
+        if (events[i].kind == 2)
+            forget(events[i].value);
+        else if (silence())
+            tell(from);
+    }
+}
+
+/* ---- the stack: painted, used, read back */
+
+static uint8_t stack[STACK] __attribute__((aligned(16)));
+
+static void on_stack(void (*work)(void))
+{
+    __asm__ volatile("movq %%rsp, %%rbx\n\tmovq %0, %%rsp\n\tcall *%1\n\tmovq %%rbx, %%rsp"
+                     :
+                     : "r"(stack + STACK), "r"(work)
+                     : "rax", "rbx", "rcx", "rdx", "rsi", "rdi", "r8", "r9", "r10", "r11", "xmm0", "xmm1", "xmm2", "xmm3", "xmm4", "xmm5", "xmm6", "xmm7",
+                       "xmm8", "xmm9", "xmm10", "xmm11", "xmm12", "xmm13", "xmm14", "xmm15", "memory", "cc");
+}
+
+static size_t used_by(void (*work)(void))
+{
+    size_t untouched = 0;
+    for (size_t i = 0; i < STACK; i++) stack[i] = 0xA5;
+    on_stack(work);
+    while (untouched < STACK && stack[untouched] == 0xA5) untouched++;
+    return STACK - untouched;
+}
+
+static int begin(int argc, char **argv)
+{
+    const char *mode = argc < 2 ? "" : argv[1];
+    if (same(mode, "sizes")) {
+        say_number(sizeof state, 10, 1);
+        say("\n");
+        return 0;
+    }
+    if (argc < 4) {
+        say("usage: bench reports FILE PIECE | stack FILE PIECE | run FILE PIECE RUNS | sizes\n");
+        return 2;
+    }
+    load(argv[2]);
+    piece = number_of(argv[3]);
+    runs = argc < 5 ? (size_t)-1 : number_of(argv[4]);
+    telling = same(mode, "reports");
+    if (same(mode, "stack")) {
+        say_number(used_by(all), 10, 1);
+        say("\n");
+        return 0;
+    }
+    all();
+    if (telling) {
+        say("area ");
+        say_number(hash(area, AREA), 16, 8);
+        say("\n");
+    }
+    return 0;
+}
+
+void enter(long *stack_at_start)
+{
+    leave(begin((int)stack_at_start[0], (char **)(stack_at_start + 1)));
+}
+
+__asm__(".globl _start\n_start:\n\txorl %ebp, %ebp\n\tmovq %rsp, %rdi\n\tandq $-16, %rsp\n\tcall enter\n");
+
+/* ---- what a compiler may call: sixteen octets at a time, so that the count depends on no C library */
+
+typedef long long sixteen __attribute__((vector_size(16), aligned(1), may_alias));
+
+void *memcpy(void *to, const void *from, size_t n)
+{
+    uint8_t *t = to;
+    const uint8_t *f = from;
+    for (; 16 <= n; n -= 16, t += 16, f += 16) *(sixteen *)t = *(const sixteen *)f;
+    while (n--) *t++ = *f++;
+    return to;
+}
+
+void *memmove(void *to, const void *from, size_t n)
+{
+    uint8_t *t = to;
+    const uint8_t *f = from;
+    if (t <= f) return memcpy(to, from, n);
+    while (n--) t[n] = f[n];
+    return to;
+}
+
+void *memset(void *to, int value, size_t n)
+{
+    uint8_t *t = to;
+    long long eight = (long long)(0x0101010101010101u * (uint8_t)value);
+    for (; 16 <= n; n -= 16, t += 16) *(sixteen *)t = (sixteen){eight, eight};
+    while (n--) *t++ = (uint8_t)value;
+    return to;
+}
+
+int memcmp(const void *a, const void *b, size_t n)
+{
+    const uint8_t *x = a, *y = b;
+    for (; n; n--, x++, y++)
+        if (*x != *y) return *x < *y ? -1 : 1;
+    return 0;
+}

@@ -1,0 +1,35 @@
+/* A plain C listener for the comparison: the same frames, the same reports, the same message area as the proved one,
+   written the usual way. The state stands behind a pointer and is stepped an octet at a time, with running check sums. */
+#ifndef PLAIN_H
+#define PLAIN_H
+#include <stddef.h>
+#include <stdint.h>
+
+struct plain_slot {
+    uint8_t used, source, destination, kind, invoke, next, choice;
+    uint16_t held;
+};
+
+struct plain {
+    uint8_t phase, header_sum, type, destination, source;
+    uint16_t data_sum, length, got;
+    uint8_t store[501];
+    struct plain_slot slots[4];
+};
+
+void plain_fresh(struct plain *p);
+
+/* Eats the piece through the first octet that causes a report, else all of it. Answers the octets eaten; `reported` says
+   whether the 16 octets of `report` were written. `area` is 65,536 octets. */
+size_t plain_feed(struct plain *p, const uint8_t *piece, size_t n, uint8_t *report, uint8_t *area, int *reported);
+
+/* The line fell silent. Answers whether the report was written. */
+int plain_silence(struct plain *p, uint8_t *report);
+
+/* Frees a slot: 0, or 56 where it is not open. */
+int plain_forget(struct plain *p, unsigned slot);
+
+/* How many tag items these octets are, or minus the refusal number. */
+int plain_items(const uint8_t *s, size_t n);
+
+#endif

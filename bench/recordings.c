@@ -1,0 +1,380 @@
+/* Makes the recordings that both listeners are run on: recordings NAME [N] writes one to standard output.
+   A recording is records of four octets: kind (0 octet, 1 silence, 2 forget), value, two zeros.
+
+     idle          tokens and polls of eight masters, a second of a trunk (7,680 octets)
+     full          frames with 501 data octets
+     segmented     logs on four keys at once, each of five segments
+     damaged [N]   N-th random mixture of good, damaged, refused and segmented traffic, silences and forget orders
+     flat N        one segmented message of N items side by side; a silence stands before its last segment
+     nested N      the same, sixteen deep
+     message N     one segmented message of N octets; the same */
+#include <stdint.h>
+#include <stdio.h>
+#include <stdlib.h>
+#include <string.h>
+
+static void record(int kind, int value)
+{
+    putchar(kind);
+    putchar(value);
+    putchar(0);
+    putchar(0);
+}
+
+static void silence(void) { record(1, 0); }
+static void forget(int slot) { record(2, slot); }
+
+static uint64_t seed = 1;
+static unsigned below(unsigned n) /* a number from 0 to n - 1 */
+{
+    seed = seed * 6364136223846793005u + 1442695040888963407u;
+    return (unsigned)((seed >> 33) % n);
+}
+
+/* ---- frames */
+
+static uint8_t frame[520];
+static int frame_length;
+
+/* Both checks a bit at a time: the polynomials x^8 + x^7 + 1 and x^16 + x^12 + x^5 + 1, low bit first. */
+static unsigned sum(const uint8_t *s, int n, unsigned start, unsigned polynomial)
+{
+    unsigned c = start;
+    for (int i = 0; i < n; i++) {
+        c ^= s[i];
+        for (int bit = 0; bit < 8; bit++) c = c & 1 ? c >> 1 ^ polynomial : c >> 1;
+    }
+    return c;
+}
+
+static void make(int type, int to, int from, const uint8_t *data, int n)
+{
+    uint8_t *f = frame;
+    f[0] = 0x55;
+    f[1] = 0xFF;
+    f[2] = (uint8_t)type;
+    f[3] = (uint8_t)to;
+    f[4] = (uint8_t)from;
+    f[5] = (uint8_t)(n >> 8);
+    f[6] = (uint8_t)n;
+    f[7] = (uint8_t)~sum(f + 2, 5, 0xFF, 0x81);
+    frame_length = 8;
+    if (n == 0) return;
+    memcpy(f + 8, data, (size_t)n);
+    unsigned check = ~sum(data, n, 0xFFFF, 0x8408);
+    f[8 + n] = (uint8_t)check;
+    f[9 + n] = (uint8_t)(check >> 8);
+    frame_length = n + 10;
+}
+
+static void put(const uint8_t *s, int n)
+{
+    for (int i = 0; i < n; i++) record(0, s[i]);
+}
+
+static void send(int type, int to, int from, const uint8_t *data, int n)
+{
+    make(type, to, from, data, n);
+    put(frame, frame_length);
+}
+
+/* One segment of a complex ack behind a network header without addresses. */
+static int segment(uint8_t *data, int invoke, int number, int more, int choice, const uint8_t *octets, int n)
+{
+    const uint8_t head[7] = {0x01, 0x00, (uint8_t)(more ? 0x3C : 0x38), (uint8_t)invoke, (uint8_t)number, 8, (uint8_t)choice};
+    memcpy(data, head, 7);
+    memcpy(data + 7, octets, (size_t)n);
+    return n + 7;
+}
+
+/* ---- items */
+
+static uint8_t text[16384];
+static int text_length;
+static void item(const uint8_t *s, int n)
+{
+    memcpy(text + text_length, s, (size_t)n);
+    text_length += n;
+}
+
+/* One record of a log: date and time in group 0, a real in group 1. */
+static void log_record(int i)
+{
+    const uint8_t r[] = {0x0E, 0xA4, 126, 11, (uint8_t)(1 + i % 28), 1, 0xB4, (uint8_t)(i % 24), (uint8_t)(i % 60), 0, 0, 0x0F,
+                         0x1E, 0x44, 0x42, 0x39, (uint8_t)i, 0x9A, 0x1F};
+    item(r, sizeof r);
+}
+
+static void log_of(int octets)
+{
+    text_length = 0;
+    for (int i = 0; text_length + 19 <= octets; i++) log_record(i);
+}
+
+/* ---- the recordings */
+
+static void idle(void)
+{
+    int sent = 0;
+    for (int turn = 0; sent < 960; turn++) {
+        int m = turn % 8;
+        send(0, (m + 1) % 8, m, NULL, 0);
+        sent++;
+        if (turn % 5 == 4 && sent < 960) {
+            send(1, 8 + turn % 100, m, NULL, 0);
+            sent++;
+            silence(); /* nobody answers */
+        }
+    }
+}
+
+static void full(void)
+{
+    uint8_t data[501];
+    for (int i = 0; i < 16; i++) {
+        const uint8_t head[5] = {0x01, 0x00, 0x30, (uint8_t)i, 0x0C};
+        memcpy(data, head, 5);
+        text_length = 0;
+        if (i % 2) { /* one long octet string */
+            const uint8_t tag[4] = {0x65, 0xFE, 492 >> 8, 492 & 255};
+            item(tag, 4);
+            for (int j = 0; j < 492; j++) text[text_length++] = (uint8_t)(j * 7 + i);
+        } else { /* reals, and one null to fill up */
+            for (int j = 0; j < 99; j++) {
+                const uint8_t real[5] = {0x44, 0x42, (uint8_t)j, (uint8_t)i, 0x9A};
+                item(real, 5);
+            }
+            item((const uint8_t[]){0x00}, 1);
+        }
+        memcpy(data + 5, text, 496);
+        send(6, 1, 3, data, 501);
+    }
+}
+
+static void segmented(void)
+{
+    uint8_t data[501];
+    log_of(2280);
+    for (int number = 0; number < 5; number++)
+        for (int key = 0; key < 4; key++) {
+            int from = number * 460, n = text_length - from < 460 ? text_length - from : 460;
+            int size = segment(data, 10 + key, number, number < 4, 14, text + from, n);
+            send(6, 1, 3 + key / 2, data, size);
+        }
+}
+
+/* One message in segments of 460 octets, with a silence before the last. */
+static void one_message(void)
+{
+    uint8_t data[501];
+    int last = text_length ? (text_length - 1) / 460 : 0;
+    for (int number = 0; number <= last; number++) {
+        int from = number * 460, n = number < last ? 460 : text_length - from;
+        int size = segment(data, 1, number, number < last, 14, text + from, n);
+        if (number == last) silence();
+        send(6, 1, 3, data, size);
+    }
+}
+
+static void flat(int items)
+{
+    for (int i = 0; i < items; i++) item((const uint8_t[]){0x21, (uint8_t)i}, 2);
+    one_message();
+}
+
+/* Towers of sixteen openings, the items of the rest inside them, sixteen closings. */
+static void nested(int items)
+{
+    while (32 < items) {
+        int inside = items < 64 ? items - 32 : 32;
+        for (int i = 0; i < 16; i++) item((const uint8_t[]){0x3E}, 1);
+        for (int i = 0; i < inside; i++) item((const uint8_t[]){0x21, (uint8_t)i}, 2);
+        for (int i = 0; i < 16; i++) item((const uint8_t[]){0x3F}, 1);
+        items -= 32 + inside;
+    }
+    for (int i = 0; i < items; i++) item((const uint8_t[]){0x21, (uint8_t)i}, 2);
+    one_message();
+}
+
+/* Texts of 17 characters, and nulls to fill up: 16,384 octets are 823 items. */
+static void message(int octets)
+{
+    while (text_length + 20 <= octets) item((const uint8_t *)"\x75\x12\0Chamber 12 closed", 20);
+    while (text_length < octets) item((const uint8_t[]){0x00}, 1);
+    one_message();
+}
+
+/* ---- damaged traffic */
+
+/* Items that are often good; now and then one with a fault, or a cut. */
+static void some_items(void)
+{
+    static const uint8_t good[][8] = {{2, 0x21, 5}, {5, 0x44, 0x42, 0x39, 0x99, 0x9A}, {1, 0x10}, {1, 0x11}, {1, 0x00}, {3, 0x32, 0xFF, 0x7F},
+        {5, 0xC4, 2, 0, 0, 1}, {2, 0x09, 0x55}, {3, 0x72, 0, 0x41}, {3, 0x82, 4, 0}, {2, 0x91, 3}, {7, 0x65, 5, 1, 2, 3, 4, 5}, {4, 0xF9, 0x20, 1, 0x00}};
+    static const uint8_t bad[][8] = {{3, 0x22, 0, 5}, {3, 0x32, 0xFF, 0x80}, {2, 0x81, 1}, {1, 0x20}, {1, 0xD1}, {1, 0x15}, {2, 0x65, 4}, {2, 0xF0, 5}, {1, 0x3F},
+        {2, 0x71, 6}, {2, 0xF8, 0x0E}, {4, 0x65, 0xFE, 0, 0xFD}, {6, 0x65, 0xFF, 0, 1, 0, 0}, {6, 0x2D, 0xFF, 0, 0, 1, 0}, {1, 0x46}};
+    int open[16], depth = 0;
+    text_length = 0;
+    for (int i = (int)below(40); i; i--) {
+        unsigned what = below(100);
+        if (what < 12 && depth < 16) {
+            open[depth] = (int)below(15);
+            text[text_length++] = (uint8_t)(open[depth++] << 4 | 0x0E);
+        } else if (what < 24 && depth) {
+            text[text_length++] = (uint8_t)(open[--depth] << 4 | 0x0F);
+        } else if (what < 25) {
+            const uint8_t *x = bad[below(sizeof bad / 8)];
+            item(x + 1, x[0]);
+        } else {
+            const uint8_t *x = good[below(sizeof good / 8)];
+            item(x + 1, x[0]);
+        }
+    }
+    while (depth && below(60)) text[text_length++] = (uint8_t)(open[--depth] << 4 | 0x0F);
+    if (text_length && below(40) == 0) text_length -= 1 + (int)below((unsigned)text_length);
+}
+
+static int some_network(uint8_t *s)
+{
+    int n = 2;
+    unsigned control = below(20) ? below(8) : below(256);
+    if (below(4) == 0) control |= 0x20;
+    if (below(4) == 0) control |= 0x08;
+    if (below(25) == 0) control |= 0x80;
+    if (below(20)) control &= 0xAF;
+    s[0] = below(60) ? 1 : (uint8_t)below(256);
+    s[1] = (uint8_t)control;
+    for (int part = 0x20; part; part = part == 0x20 ? 0x08 : 0)
+        if (control & (unsigned)part) {
+            int length = below(15) ? 1 + (int)below(7) : (int)below(9);
+            unsigned net = below(30) ? 1 + below(65534) : below(2) * 65535;
+            s[n++] = (uint8_t)(net >> 8);
+            s[n++] = (uint8_t)net;
+            s[n++] = (uint8_t)length;
+            for (int i = 0; i < length; i++) s[n++] = (uint8_t)below(256);
+        }
+    if (control & 0x20) s[n++] = 255;
+    if (control & 0x80) {
+        s[n] = (uint8_t)below(256);
+        if (s[n++] >= 128) {
+            s[n++] = (uint8_t)below(256);
+            s[n++] = (uint8_t)below(256);
+        }
+    }
+    return n;
+}
+
+static int some_apdu(uint8_t *s)
+{
+    unsigned kind = below(30) ? below(8) : below(16), bits = below(12) ? 0 : below(16);
+    int n = 1;
+    s[0] = (uint8_t)(kind << 4 | bits);
+    if (kind == 0) s[n++] = (uint8_t)(below(20) ? below(6) : below(256));
+    if (kind != 1) s[n++] = (uint8_t)below(4);
+    if (kind == 0 || kind == 3)
+        if (bits & 8) {
+            s[n++] = (uint8_t)below(3);
+            s[n++] = (uint8_t)(below(10) ? 1 + below(127) : below(256));
+        }
+    s[n++] = (uint8_t)below(20);
+    if (kind == 4) s[n++] = (uint8_t)(1 + below(127));
+    if (kind == 0 || kind == 1 || kind == 3 || kind == 5 || below(20) == 0) {
+        some_items();
+        int length = text_length < 400 ? text_length : 400;
+        memcpy(s + n, text, (size_t)length);
+        n += length;
+    } else if (below(20) == 0)
+        n -= (int)below((unsigned)n);
+    return n;
+}
+
+/* Six conversations over four slots; some lose a segment, repeat one, change their choice. */
+static int next_number[6];
+static int some_segment(uint8_t *s, int key)
+{
+    int n = some_network(s);
+    int number = below(12) ? next_number[key] : (int)below(4), more = below(5) != 0;
+    if (below(200) == 0) number = 255;
+    some_items();
+    if (below(3) == 0) {
+        int whole = (int)below(60);
+        text_length = 0;
+        for (int i = 0; i < whole; i++) item((const uint8_t[]){0x44, 1, 2, 3, 4}, 5);
+    }
+    int length = text_length < 400 ? text_length : 400;
+    int kind = key % 2 ? 0x30 : 0x00;
+    s[n++] = (uint8_t)(kind | 8 | (more ? 4 : 0));
+    if (kind == 0) s[n++] = 5;
+    s[n++] = (uint8_t)(key / 2);
+    s[n++] = (uint8_t)number;
+    s[n++] = (uint8_t)(1 + below(127));
+    s[n++] = (uint8_t)(below(30) ? 12 : 15);
+    memcpy(s + n, text, (size_t)length);
+    next_number[key] = more ? number + 1 : 0;
+    return n + length;
+}
+
+/* A frame that is made good and then, now and then, harmed. */
+static void some_frame(void)
+{
+    uint8_t data[520];
+    int n = 0, type = below(4) ? 5 + (int)below(2) : (int)below(256), to = (int)below(256), from = (int)below(256);
+    if (type == 5 || type == 6) {
+        if (below(3)) {
+            int key = (int)below(6);
+            to = 1;
+            from = 2 + key / 3;
+            n = some_segment(data, key);
+        } else {
+            n = some_network(data);
+            if (below(10)) n += some_apdu(data + n);
+        }
+    } else if (below(2)) {
+        n = (int)below(60);
+        for (int i = 0; i < n; i++) data[i] = (uint8_t)below(256);
+    }
+    if (501 < n) n = 501;
+    make(type, to, from, data, n);
+    switch (below(30)) {
+    case 0: frame[below((unsigned)frame_length)] ^= (uint8_t)(1 << below(8)); break;
+    case 1: frame_length = (int)below((unsigned)frame_length); break; /* cut short */
+    case 2: /* a length that is too long, its check good */
+        frame[5] = (uint8_t)(1 + below(4));
+        frame[6] = (uint8_t)below(256);
+        frame[7] = (uint8_t)~sum(frame + 2, 5, 0xFF, 0x81);
+        break;
+    }
+    put(frame, frame_length);
+}
+
+static void damaged(int which)
+{
+    seed = (uint64_t)which * 977 + 5;
+    for (int i = 0; i < 120; i++) {
+        some_frame();
+        switch (below(12)) {
+        case 0: case 1: case 2: silence(); break;
+        case 3: for (int j = (int)below(20); j; j--) record(0, below(3) ? (int)below(256) : 0x55); break;
+        case 4: record(0, 0x55); break;
+        case 5: if (below(3) == 0) forget((int)below(6)); break;
+        }
+    }
+}
+
+int main(int argc, char **argv)
+{
+    const char *name = argc < 2 ? "" : argv[1];
+    int n = argc < 3 ? 0 : atoi(argv[2]);
+    if (!strcmp(name, "idle")) idle();
+    else if (!strcmp(name, "full")) full();
+    else if (!strcmp(name, "segmented")) segmented();
+    else if (!strcmp(name, "damaged")) damaged(n);
+    else if (!strcmp(name, "flat") && n <= 4096) flat(n);
+    else if (!strcmp(name, "nested") && n <= 4096) nested(n);
+    else if (!strcmp(name, "message") && n <= 16384) message(n);
+    else {
+        fputs("usage: recordings idle | full | segmented | damaged [N] | flat N | nested N | message N\n", stderr);
+        return 2;
+    }
+    return 0;
+}

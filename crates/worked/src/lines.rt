@@ -1,0 +1,58 @@
+// Words and octets of a line of text.
+
+// The first place of an octet at or after a place; the end where there is none.
+pub fn place_of(s: &[u8], from: usize, x: u8) -> usize {
+    let mut i = from;
+    while i < s.len() {
+        if s[i] == x {
+            return i;
+        }
+        i += 1;
+    }
+    s.len()
+}
+
+// The next place; the end at the end.
+pub fn after(s: &[u8], at: usize) -> usize {
+    if at < s.len() {
+        return at + 1;
+    }
+    s.len()
+}
+
+// The place after the next space.
+pub fn next_word(s: &[u8], at: usize) -> usize {
+    after(s, place_of(s, at, b' '))
+}
+
+// The value of a hexadecimal digit in capitals.
+fn digit(c: u8) -> u8 {
+    if c < 58 {
+        return c % 16;
+    }
+    (c % 16 + 9) % 16
+}
+
+// The octet at a place of the text, laid at a place; the place after it. Nothing at the text's end.
+fn lay_octet(s: &[u8], at: usize, out: &mut [u8], to: usize) -> usize {
+    if at < s.len() {
+        if at + 1 < s.len() {
+            let x = digit(s[at]) % 16 * 16 + digit(s[at + 1]) % 16;
+            return trials::lay(out, to, &[x]);
+        }
+    }
+    to
+}
+
+// The octets that the text is, two digits and a space each; how many there are.
+pub fn octets_of(s: &[u8], out: &mut [u8]) -> usize {
+    let mut n = 0;
+    let mut at = 0;
+    let mut left = s.len();
+    while 0 < left {
+        n = lay_octet(s, at, out, n);
+        at = next_word(s, at);
+        left -= 1;
+    }
+    n
+}
