@@ -35,9 +35,10 @@ flag-back false = (refl, refl)
 pub slot-back : (o : List ℕ) (at : ℕ) (x : Slot) → Has o at (slotOctets x) → (slotAt o at ≡ x) × (leb (oct o at) 1 ≡ true)
 unfolding slotAt
 slot-back o at x h =
-    let at′ : (i : ℕ) → i < 9 → getD o (at + i) 0 ≡ getD (slotOctets x) i 0 = has-at o at (slotOctets x) h in
-    (rw (h .1, at′ 1 (lit< tt), at′ 2 (lit< tt), at′ 3 (lit< tt), at′ 4 (lit< tt), at′ 5 (lit< tt), at′ 6 (lit< tt), at′ 7 (lit< tt), at′ 8 (lit< tt), two-back (x .held), flag-back (x .used) .0),
-    rw (h .1) (flag-back (x .used) .1))
+    let at′ : (i : ℕ) → i < 9 → getD o (at + i) 0 ≡ getD (slotOctets x) i 0 = has-at o at (slotOctets x) h in (
+      rw (h .1, at′ 1 (lit< tt), at′ 2 (lit< tt), at′ 3 (lit< tt), at′ 4 (lit< tt), at′ 5 (lit< tt), at′ 6 (lit< tt), at′ 7 (lit< tt), at′ 8 (lit< tt), two-back (x .held), flag-back (x .used) .0),
+      rw (h .1) (flag-back (x .used) .1),
+    )
 
 pub slots-back : (o : List ℕ) (xs : List Slot) → length xs ≡ 4 → 546 ≤ length o → Has o 510 (slotsOctets xs)
     → (_≡_ {A = List Slot} (slotAt o 510 ∷ slotAt o 519 ∷ slotAt o 528 ∷ slotAt o 537 ∷ []) xs) × (slotsGood o ≡ true)

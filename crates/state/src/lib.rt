@@ -21,7 +21,10 @@ pub fn load(area: &[u8]) -> Loaded
     }
     if loading::state_good(area) {
         let c = loading::state_at(area);
-        return Loaded { refused: 0, state: c };
+        return Loaded {
+            refused: 0,
+            state: c,
+        };
     }
     loading::refused(59)
 }
