@@ -6,9 +6,10 @@ use Rattle.npdu.proofs.Written as NetworkWritten
 use Rattle.apdu.specs.Laws.{exact}
 use Rattle.apdu_writer.specs.Trips.{write-read, read-write}
 use Rattle.items.proofs.Exact as Items
+use Rattle.services.proofs.Exact as Services
 use Rattle.item_judge.proofs.Sixty as Judge
 use Rattle.item_writer.proofs.Trips as Trips
-use Rattle.demands.specs.Demands.{HeaderCheckExact, DataCheckExact, FramesExact, NetworkExact, NetworkReadsBack, HeadersExact, HeadersReadBack, HeadersWriteBack, ItemsExact, SixtyTwo, ItemsWriteBack, ItemsReadBack}
+use Rattle.demands.specs.Demands.{HeaderCheckExact, DataCheckExact, FramesExact, NetworkExact, NetworkReadsBack, HeadersExact, HeadersReadBack, HeadersWriteBack, ItemsExact, SixtyTwo, ItemsWriteBack, ItemsReadBack, ServicesExact}
 
 pub header-check-exact : HeaderCheckExact
 header-check-exact = header-exact
@@ -45,3 +46,6 @@ items-write-back = Trips.listed-writes
 
 pub items-read-back : ItemsReadBack
 items-read-back = Trips.written-reads
+
+pub services-exact : ServicesExact
+services-exact kind choice = Services.exactly kind choice

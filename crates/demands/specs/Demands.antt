@@ -11,7 +11,7 @@ use Rattle.octets.specs.Laid.{Laid}
 use Rattle.octets.specs.declared.Written.{Written}
 use Rattle.octets.specs.declared.Written.the-variants.{Wrote}
 use Rattle.sums.specs.Sums.{headerStart, headerLeft, headerRun, headerCheck, dataStart, dataLeft, dataRun, dataCheck}
-use Rattle.runs.specs.Run.{Event, ended, Run, wire, Ends, walk}
+use Rattle.runs.specs.Run.{Event, ended, Run, wire, walk}
 use Rattle.frames.specs.declared.Receiver.{Receiver}
 use Rattle.trunk.specs.Reading.{Out, keptOf, heldOf, came, readFrom}
 use Rattle.trunk.specs.Reading.Out.{good}
@@ -33,19 +33,22 @@ use Rattle.items.specs.Grammar as Items
 use Rattle.items.specs.Records.{thingsOf}
 use Rattle.items.specs.Listing.{Listed}
 use Rattle.items.specs.declared.Tally.{Tally}
+use Rattle.services.specs.Shows as Services
+use Rattle.services.specs.Layout as ServiceLayout
 use Rattle.item_judge.specs.Judge.{writeFault, recordsIn}
 use Rattle.item_judge.specs.Meaning.{ReadingOf, Writable}
 use mathlib.Core.Bool.{true, false}
 use Rattle.runs.specs.Run.Order.{trunk}
 use Rattle.runs.specs.Offered.{Offered}
-use Rattle.messages.specs.Slots.{Segment, Slot, part, room, boxed}
-use Rattle.messages.specs.Rows.{rebuild, kept}
+use Rattle.messages.specs.Slots.{Segment, part, room, boxed}
+use Rattle.messages.specs.Rows.{rebuild}
 use Rattle.messages.specs.History.{begun, Rebuilt, touches}
-use Rattle.rebuild.specs.View.{keys, view}
+use Rattle.rebuild.specs.View.{keys}
 use Rattle.rebuild.specs.declared.Key.{Key}
 use Rattle.recordings.specs.Frames.{rules, history, Completes}
 use Rattle.collector.specs.Frame.{bacnet, segmentAt}
-use Rattle.collector.specs.Calls.{box, passing, sized, slotsOf, Feeds, Stills, Forgets}
+use Rattle.collector.specs.Calls.{box, slotsOf, freshCollector, Feeds, Stills, Forgets}
+use Rattle.collector.specs.Offering.{Passes, End, Called}
 use Rattle.collector.specs.declared.Collector.{Collector}
 use Rattle.collector.specs.declared.Fed.{Fed}
 use Rattle.collector.specs.declared.Fell.{Fell}
@@ -68,22 +71,17 @@ WriterFixes = (f : ℕ) (o area later later′ : List ℕ) (r r′ : Written) �
 abbrev pub ListingFixes : Type 0
 ListingFixes = (s area later later′ : List ℕ) (r r′ : Tally) → Listed s area r later → Listed s area r′ later′ → (r ≡ r′) × (later ≡ later′)
 
--- the collector's three calls
+-- the collector's three calls: answer, state with every field, report area, message area
 abbrev pub FeedFixes : Type 0
 FeedFixes = (c : Collector) (report area piece : List ℕ) (f g : Fed) (report₁ area₁ report₂ area₂ : List ℕ)
-    → Feeds c report area piece f report₁ area₁ → Feeds c report area piece g report₂ area₂
-    → (f .refused ≡ g .refused) × ((f .eaten ≡ g .eaten) × ((f .reported ≡ g .reported)
-    × ((f .state .receiver ≡ g .state .receiver) × ((f .state .slots ≡ g .state .slots) × ((report₁ ≡ report₂) × (area₁ ≡ area₂))))))
+    → Feeds c report area piece f report₁ area₁ → Feeds c report area piece g report₂ area₂ → (f ≡ g) × (report₁ ≡ report₂) × (area₁ ≡ area₂)
 
 abbrev pub SilenceFixes : Type 0
 SilenceFixes = (c : Collector) (report : List ℕ) (f g : Fell) (report₁ report₂ : List ℕ)
-    → Stills c report f report₁ → Stills c report g report₂
-    → (f .refused ≡ g .refused) × ((f .reported ≡ g .reported)
-    × ((f .state .receiver ≡ g .state .receiver) × ((f .state .slots ≡ g .state .slots) × (report₁ ≡ report₂))))
+    → Stills c report f report₁ → Stills c report g report₂ → (f ≡ g) × (report₁ ≡ report₂)
 
 abbrev pub ForgetFixes : Type 0
-ForgetFixes = (c : Collector) (s : ℕ) (f g : Forgot) → Forgets c s f → Forgets c s g
-    → (f .number ≡ g .number) × ((f .state .receiver ≡ g .state .receiver) × (f .state .slots ≡ g .state .slots))
+ForgetFixes = (c : Collector) (s : ℕ) (f g : Forgot) → Forgets c s f → Forgets c s g → f ≡ g
 
 -- ---- DEMAND 2. "Frames, headers, tags and parameters are accepted exactly when ASHRAE 135, as document 01 condenses it, accepts them. Headers, tags and
 -- parameters that were read write back to the same octets; what was written reads back as the same items."
@@ -139,44 +137,42 @@ abbrev pub ItemsReadBack : Type 0
 ItemsReadBack = (area source out : List ℕ) (n : ℕ) (later : List ℕ) → Octets source
     → Laid (writeFault area source) (Items.encodeAll (thingsOf source (recordsIn area))) out (Wrote n) later → ReadingOf source (recordsIn area) (take n later)
 
+-- the services: for every kind of PDU and choice, octets are read as a service that shows this message exactly when the message is of that kind and choice,
+-- keeps its rules, and the octets are its layout
+abbrev pub ServicesExact : Type 0
+ServicesExact = (kind choice : ℕ) → Exactly (Services.Shows kind choice) (Services.ValidFor kind choice) ServiceLayout.encode
+
 -- ---- DEMAND 3. "From one state that refusal 59 passes and one message area, fix one run of trunk octets with silences and forget orders at fixed places. Cut the
 -- octets anywhere, offer the rest again after each report, lend areas of the right sizes that nobody else writes. Then reports, final state and message area are
 -- those that a reading of the whole recording by position gives. Each message begun and completed in the run is its key's accepted segments since its latest
 -- segment 0, joined in number order."
 
--- what the box's end is: the reports with their places, the receiver, the slots, the message area
-abbrev pub End : Type 0
-End = Ends Receiver (List (Slot Key)) (List ℕ) (List ℕ)
-
--- a state that 59 passes, and a message area that 60 passes
-pub record Starts (r : Receiver) (s : List (Slot Key)) (a : List ℕ) : Type 0 where
-  pub receiver : Sound r
-  pub slots : passing s ≡ true
-  pub area : sized a ≡ true
-
--- the first sentence: however the run is offered, its end is the reading's
+-- the first sentence: from a state that 59 passes and an area of 65,536 octets, however the run is offered, each call giving any answer that its promise
+-- allows, the reports with their places, the last state and the message area are the reading's
 abbrev pub ReadByPosition : Type 0
-ReadByPosition = (r : Receiver) (s : List (Slot Key)) (a : List ℕ) (run : Run) (e : End) → Starts r s a
-    → Offered box (length (heldOf r)) r s a run e → e ≡ reading (rules keys bacnet) r s a run
+ReadByPosition = (c : Collector) (area : List ℕ) → Passes c → length area ≡ 65536 → (run : Run) (e : End)
+    → Called (length (heldOf (c .receiver))) c area run e → e ≡ reading (rules keys bacnet) (c .receiver) (slotsOf c) area run
 
--- and every run can be offered, so the sentence is not empty
+-- every run can be offered, so the sentence is not empty; a fresh collector passes 59, and so does every state that a run reaches
 abbrev pub CanBeOffered : Type 0
-CanBeOffered = (run : Run) (r : Receiver) (s : List (Slot Key)) (a : List ℕ) → Starts r s a → (e : End) × Offered box (length (heldOf r)) r s a run e
+CanBeOffered = (c : Collector) (area : List ℕ) → Passes c → length area ≡ 65536 → (run : Run)
+    → (e : End) × Offered box (length (heldOf (c .receiver))) (c .receiver) (slotsOf c) area run e
+
+abbrev pub FreshPasses : Type 0
+FreshPasses = Passes freshCollector
 
 -- the second sentence, at the place where a message's last segment ends: its slot's octets are the accepted segments of its key since the latest segment 0,
--- in number order, and the length reported is theirs. The history is read off the recording; completed messages with bad tags are completed too.
+-- in number order, and the length is theirs. The history is read off the recording; a completed message with bad tags is completed too.
 abbrev pub MessagesWhole : Type 0
-MessagesWhole = (r : Receiver) (s : List (Slot Key)) (a : List ℕ) → Starts r s a
-    → (whole : Run) (front : Run) (e : Event) (o : Out) (g : Segment Key)
-    → (let t = readFrom r (wire whole) in
-    let p = length (heldOf r) in
+MessagesWhole = (c : Collector) (area : List ℕ) → Passes c → length area ≡ 65536 → (all front : Run) (e : Event) (o : Out) (g : Segment Key)
+    → (let t = readFrom (c .receiver) (wire all) in
+    let p = length (heldOf (c .receiver)) in
+    let run = front ++ (trunk e ∷ []) in
     ended (p + length (wire front)) t ≡ some o → segmentAt o ≡ some g → (k : Key) (i n : ℕ)
-    → (let run = front ++ (trunk e ∷ []) in
-    let log = history keys bacnet t p s a run in
-    Completes log k i n → begun keys k log ≡ true → Rebuilt keys k log (walk (rules keys bacnet) t p s a run .area) i n))
+    → (let log = history keys bacnet t p (slotsOf c) area run in
+    Completes log k i n → begun keys k log ≡ true → Rebuilt keys k log (walk (rules keys bacnet) t p (slotsOf c) area run .area) i n))
 
--- two keys never share octets: a segment changes no octet of another slot
+-- a segment changes no octet of another slot
 abbrev pub OthersStay : Type 0
-OthersStay = (r : Receiver) (s : List (Slot Key)) (a : List ℕ) → Starts r s a → (g : Segment Key) (j : ℕ) → j < 4
-    → touches (rebuild keys g (boxed s a) .answer) j ≡ false
-    → part (room * j) room (rebuild keys g (boxed s a) .box .area) ≡ part (room * j) room a
+OthersStay = (c : Collector) (area : List ℕ) → Passes c → length area ≡ 65536 → (g : Segment Key) (j : ℕ) → j < 4
+    → (let d = rebuild keys g (boxed (slotsOf c) area) in touches (d .answer) j ≡ false → part (room * j) room (d .box .area) ≡ part (room * j) room area)

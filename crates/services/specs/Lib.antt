@@ -2,3 +2,4 @@ pub mod Parts
 pub mod Reading
 pub mod Layout
 pub mod Places
+pub mod Shows

@@ -1,0 +1,86 @@
+// One trunk: its state is 546 octets that the caller lends.
+use collector::Collector;
+ghost use Rattle.collector.specs.Calls.{freshCollector};
+ghost use Rattle.state.specs.Calls.{Saves};
+ghost use Rattle.hitchbarley.specs.Trunk.{Feeds, Stills, Forgets};
+
+// Makes a fresh state: 0, or 60.
+#[no_mangle]
+pub extern "C" fn hb_fresh(state: &mut [u8]) -> u8
+    ensures { λ r. ⌜ Saves freshCollector (now (state .entry)) r (now (state .exit)) ⌝ }
+{
+    state::save(Collector::fresh(), state)
+}
+
+// Eats a piece's octets through the first that causes a report, else all: 0, 60 or 59.
+#[no_mangle]
+pub extern "C" fn hb_feed(
+    state: &mut [u8],
+    piece: &[u8],
+    report: &mut [u8],
+    area: &mut [u8],
+    eaten: &mut usize,
+    reported: &mut u8,
+) -> u8
+    ensures { λ r. ⌜ Feeds (now (state .entry)) (now (report .entry)) (now (area .entry)) (now (piece .entry)) r (now (eaten .exit)) (now (reported .exit)) (now (state .exit)) (now (report .exit)) (now (area .exit)) ⌝ }
+{
+    *eaten = 0;
+    *reported = 0;
+    if report.len() != 16 {
+        return 60;
+    }
+    if area.len() != 65536 {
+        return 60;
+    }
+    let l = state::load(state);
+    let n = l.refused;
+    if n != 0 {
+        return n;
+    }
+    let c = l.state;
+    let f = c.feed(piece, report, area);
+    let later = f.state;
+    state::save(later, state);
+    *eaten = f.eaten;
+    *reported = f.reported as u8;
+    f.refused
+}
+
+// The line fell silent: 0, 60 or 59.
+#[no_mangle]
+pub extern "C" fn hb_silence(state: &mut [u8], report: &mut [u8], reported: &mut u8) -> u8
+    ensures { λ r. ⌜ Stills (now (state .entry)) (now (report .entry)) r (now (reported .exit)) (now (state .exit)) (now (report .exit)) ⌝ }
+{
+    *reported = 0;
+    if report.len() != 16 {
+        return 60;
+    }
+    let l = state::load(state);
+    let n = l.refused;
+    if n != 0 {
+        return n;
+    }
+    let c = l.state;
+    let f = c.silence(report);
+    let later = f.state;
+    state::save(later, state);
+    *reported = f.reported as u8;
+    f.refused
+}
+
+// Frees a slot: 0, 60, 59 or 56.
+#[no_mangle]
+pub extern "C" fn hb_forget(state: &mut [u8], slot: u8) -> u8
+    ensures { λ r. ⌜ Forgets (now (state .entry)) slot r (now (state .exit)) ⌝ }
+{
+    let l = state::load(state);
+    let n = l.refused;
+    if n != 0 {
+        return n;
+    }
+    let c = l.state;
+    let f = c.forget(slot);
+    let later = f.state;
+    state::save(later, state);
+    f.number
+}

@@ -1,0 +1,5 @@
+pub mod Areas
+pub mod Back
+pub mod Stands
+pub mod Exact
+pub mod Values

@@ -1,0 +1,26 @@
+use Rattle.state.proofs.Areas.{length-of-map}
+use mathlib.Core.Path.{_≡_}
+use lib.ListN.{length}
+use Rattle.state.proofs.Areas.{slots-laid, length-of-map}
+use borrow.Author.Needs.{needs}
+use Rattle.state.proofs.saving.put_slots.Statement.{statement}
+use Rattle.state.proofs.saving.put_slots.Tie as tie
+
+-- the slots' count, at the entry
+four : (st : tie.Start) → length (st .args .t1 .slots) ≡ 4
+four st = search (length-of-map, st .good)
+
+pub put-slots-spec : {M : Type 1} → statement M
+put-slots-spec =
+    tie.close
+    (tie.spec
+    (λ c. search needs)
+    (λ c κs. search needs)
+    (λ c. search needs)
+    (λ c κs. search needs)
+    (λ c. search needs)
+    (λ c κs. search needs)
+    (λ c. search needs)
+    (λ c κs. search needs)
+    (λ c. search needs)
+    (λ c. slots-laid (c .before .before .before .before .before .before .before .before .before .before .before .before .before .before .before .before .before .before .before .before .before .args .t1 .slots) _ (four (c .before .before .before .before .before .before .before .before .before .before .before .before .before .before .before .before .before .before .before .before .before)) (c .before .before .before .before .before .before .before .before .before .before .before .before .before .before .before .before .before .put-slot .ensures) (c .before .before .before .before .before .before .before .before .before .before .before .before .put-slot2 .ensures) (c .before .before .before .before .before .before .before .put-slot3 .ensures) (c .before .before .put-slot4 .ensures) (c .before .before .before .before .before .before .before .before .before .before .before .before .before .before .before .before .before .before .before .before .before .pre)))

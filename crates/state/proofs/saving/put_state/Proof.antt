@@ -1,0 +1,25 @@
+use Rattle.state.proofs.Areas.{receiver-size, slots-size, state-laid, length-of-map}
+use mathlib.Core.Path.{_≡_}
+use lib.ListN.{length}
+use borrow.Author.Needs.{needs}
+use Rattle.state.proofs.saving.put_state.Statement.{statement}
+use Rattle.state.proofs.saving.put_state.Tie as tie
+
+-- the arrays' lengths, at the entry
+five : (st : tie.Start) → length (st .args .c .receiver .link .head) ≡ 5
+five st = search needs
+
+many : (st : tie.Start) → length (st .args .c .receiver .store) ≡ 501
+many st = search needs
+
+four : (st : tie.Start) → length (st .args .c .slots .slots) ≡ 4
+four st = search (length-of-map, st .good)
+
+pub put-state-spec : {M : Type 1} → statement M
+put-state-spec =
+    tie.close
+    (tie.spec
+    (λ c κs. search needs)
+    (λ c κs. search needs)
+    (λ c. search needs)
+    (λ c. let st = c .before .before .before .before .before .before .before .before .before .before .before in state-laid (st .args .c) _ _ _ (c .before .before .before .before .before .before .put-receiver .ensures) (c .before .before .put-slots .ensures) (receiver-size (st .args .c .receiver) (five st) (many st)) (slots-size (st .args .c .slots .slots) (four st)) (st .pre)))

@@ -1,0 +1,85 @@
+// The octets of a state, laid into an area.
+use collector::Collector;
+use frames::Phase;
+use frames::Receiver;
+use rebuild::Slot;
+use rebuild::Slots;
+ghost use mathlib.Core.Path.{_≡_};
+ghost use mathlib.Core.List.{_∷_, _++_};
+ghost use Prim.Native.Nat.{_+_, _≤_};
+ghost use lib.ListN.{length};
+ghost use Rattle.octets.specs.Splice.{splice};
+ghost use Rattle.state.specs.Layout.{phaseOctets, slotOctets, slotsOctets, stateOctets};
+
+// Phase and count.
+fn phase_octets(p: Phase) -> [u8; 3]
+    ensures { λ r. ⌜ r ≡ phaseOctets p ⌝ }
+{
+    match p {
+        Phase::Hunting => [0, 0, 0],
+        Phase::Preamble => [1, 0, 0],
+        Phase::Header(got) => [2, 0, got],
+        Phase::Data(got) => [3, (got / 256) as u8, (got % 256) as u8],
+    }
+}
+
+fn slot_octets(x: Slot) -> [u8; 9]
+    ensures { λ r. ⌜ r ≡ slotOctets x ⌝ }
+{
+    [
+        x.used as u8,
+        x.key.source,
+        x.key.destination,
+        x.key.kind,
+        x.key.invoke,
+        x.next,
+        x.choice,
+        (x.held / 256) as u8,
+        (x.held % 256) as u8,
+    ]
+}
+
+// Phase, count, head, first check octet and store.
+fn put_receiver(r: Receiver, area: &mut [u8])
+    requires { ⌜ length (now area) ≡ 546 ⌝ }
+    ensures { λ _. ⌜ now (area .exit) ≡ splice (now (area .entry)) 0 (phaseOctets (r .link .phase) ++ (r .link .head ++ (r .link .first ∷ r .store))) ⌝ }
+{
+    let l = r.link;
+    let g = l.phase;
+    let p = phase_octets(g);
+    let h = l.head;
+    let s = r.store;
+    octets::copy(&p, area, 0);
+    octets::copy(&h, area, 3);
+    octets::put(area, 8, l.first);
+    octets::copy(&s, area, 9);
+}
+
+fn put_slot(x: Slot, area: &mut [u8], at: usize)
+    requires { ⌜ at + 9 ≤ length (now area) ⌝ }
+    ensures { λ _. ⌜ now (area .exit) ≡ splice (now (area .entry)) at (slotOctets x) ⌝ }
+{
+    let o = slot_octets(x);
+    octets::copy(&o, area, at);
+}
+
+fn put_slots(t: Slots, area: &mut [u8])
+    requires { ⌜ length (now area) ≡ 546 ⌝ }
+    ensures { λ _. ⌜ now (area .exit) ≡ splice (now (area .entry)) 510 (slotsOctets (t .slots)) ⌝ }
+{
+    put_slot(t.slots[0], area, 510);
+    put_slot(t.slots[1], area, 519);
+    put_slot(t.slots[2], area, 528);
+    put_slot(t.slots[3], area, 537);
+}
+
+// All of it.
+pub fn put_state(c: Collector, area: &mut [u8])
+    requires { ⌜ length (now area) ≡ 546 ⌝ }
+    ensures { λ _. ⌜ now (area .exit) ≡ stateOctets c ⌝ }
+{
+    let r = c.receiver;
+    let t = c.slots;
+    put_receiver(r, area);
+    put_slots(t, area);
+}
