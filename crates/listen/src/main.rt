@@ -27,7 +27,7 @@ fn line(octets: u64, report: [u8; 16]) {
 }
 
 // What one call eats of a lump from a place on; the octets heard are then as many more.
-fn feed(h: Heard, rest: &[u8], area: &mut [u8]) -> Heard {
+fn feed(h: Heard, rest: &[u8], area: &mut [u8; 65536]) -> Heard {
     let mut report = [0u8; 16];
     let f = h.state.feed(rest, &mut report, area);
     let state = f.state;
@@ -43,7 +43,7 @@ fn feed(h: Heard, rest: &[u8], area: &mut [u8]) -> Heard {
 }
 
 // A lump: what a call leaves after a report is offered again. Each report eats an octet, so no more calls than octets are needed.
-fn lump(h: Heard, s: &[u8], area: &mut [u8]) -> Heard {
+fn lump(h: Heard, s: &[u8], area: &mut [u8; 65536]) -> Heard {
     let start = h.octets;
     let mut now = h;
     let mut left = s.len();
@@ -56,7 +56,7 @@ fn lump(h: Heard, s: &[u8], area: &mut [u8]) -> Heard {
 }
 
 // One read; whether there is more.
-fn some(h: Heard, area: &mut [u8]) -> Heard {
+fn some(h: Heard, area: &mut [u8; 65536]) -> Heard {
     let mut buf = io::buffer();
     let got = libc::read(STDIN_FILENO, &mut buf);
     if got <= 0 {
@@ -88,7 +88,7 @@ fn going(h: Heard) -> Heard {
 }
 
 // All of the input: the loop counts its turns down from a number that no run uses up.
-fn all(area: &mut [u8]) -> Heard {
+fn all(area: &mut [u8; 65536]) -> Heard {
     let state = Collector::fresh();
     let mut h = Heard {
         state,

@@ -8,7 +8,7 @@ fn number(x: u8) {
 // Octets 10 and 11: a length is at most 16,384.
 fn octets(report: [u8; 16], what: &[u8]) {
     show::text(b", ");
-    show::number((report[10] as u32) * 256 + (report[11] as u32));
+    show::number(show::word(report[10]) * 256 + show::word(report[11]));
     show::text(what);
 }
 
