@@ -1,0 +1,90 @@
+-- What the writers promise, for each way in which they end.
+use Prim.Native.Nat.{ℕ, suc, _+_, _≤_, _<_}
+use native.Mathlib.Omega.{arith}
+use mathlib.Core.Path.{_≡_, refl, sym, ap, subst, _∙_}
+use mathlib.Core.List.{List, [], _∷_, _++_, append-nil}
+use mathlib.Core.Bool.{Bool, true, false}
+use lib.ListN.{length, take}
+use lib.Dec.{ltb}
+use borrow.Author.Tests.{lt-ltb}
+use Rattle.octets.specs.Choice.{pick}
+use Rattle.octets.specs.Splice.{splice}
+use Rattle.octets.specs.Laid.{Laid, laid-fault, laid-short, laid-over, laid-as}
+use Rattle.octets.specs.declared.Written.{Written}
+use Rattle.tags.specs.Types.{longest}
+use Rattle.items.specs.Grammar.{encodeAll}
+use Rattle.items.specs.Reading.{itemsOf}
+use Rattle.services.specs.Reading.{readService}
+use Rattle.services.specs.declared.Answer.{Answer}
+use Rattle.services.specs.declared.Answer.the-variants.{Good, Refused}
+use Rattle.services.specs.declared.Service.{Service}
+use Rattle.services.specs.declared.Service.the-variants.{ReadPropertyAck, WriteProperty}
+use Rattle.services.specs.declared.ReadAck.{ReadAck}
+use Rattle.services.specs.declared.WriteRequest.{WriteRequest}
+use Rattle.services.specs.declared.Target.{Target}
+use Rattle.service_writer.specs.Writing.{kindOf, choiceOf, ranked, octetsOf, wideTarget, tooWide, refusalOf, readFault, faultOf, rankedFault}
+use Rattle.service_writer.proofs.Items.{ranked-length}
+use Rattle.service_writer.proofs.Refusals.{Some, read-some}
+
+-- the octets were read before
+module _ (kind choice : ℕ) (o area : List ℕ) (a : Answer) (e : a ≡ readService kind choice o) where
+  accepted : (v : Service) → a ≡ Good v → readFault kind choice o ≡ 0
+  unfolding refusalOf
+  accepted v d = rw (sym e ∙ d)
+
+  pub settle-short : (v : Service) → a ≡ Good v → length area < length o → Laid (readFault kind choice o) o area (Written.Refused 61) area
+  settle-short v d h = laid-as {f = 0} (sym (accepted v d)) refl (laid-short o area h)
+
+  pub settle-good : (v : Service) → a ≡ Good v → length o ≤ length area → (later : List ℕ) → later ≡ splice area 0 o → Laid (readFault kind choice o) o area (Written.Wrote (length o)) later
+  settle-good v d h later w = laid-over _ _ o area later (accepted v d) refl h w
+
+  pub settle-refused : (x : ℕ) → a ≡ Refused x → Laid (readFault kind choice o) o area (Written.Refused x) area
+  unfolding refusalOf
+  settle-refused x d =
+      let r : readService kind choice o ≡ Refused x = sym e ∙ d in
+      let s : 0 < x = subst Some r (read-some kind choice o) in
+      laid-as {f = x} (sym (ap refusalOf r)) refl (laid-fault x o area (λ z. omega arith))
+
+-- too wide, and not
+pub wide-41 : (v : Service) (value area : List ℕ) → tooWide v ≡ true → Laid (faultOf v value) (octetsOf v value) area (Written.Refused 41) area
+unfolding faultOf
+wide-41 v value area e = rw e (laid-fault 41 _ area (λ z. omega arith))
+
+pub settled : (v : Service) (value area later o : List ℕ) (r : Written) → tooWide v ≡ false → o ≡ octetsOf v value → Laid (readFault (kindOf v) (choiceOf v) o) o area r later → Laid (faultOf v value) (octetsOf v value) area r later
+unfolding faultOf
+settled v value area later o r e d h = rw e (subst (λ (x : List ℕ). Laid (readFault (kindOf v) (choiceOf v) x) x area r later) d h)
+
+module _ (kind choice : ℕ) (t : Target) (value : List ℕ) (here : Bool) (priority : ℕ) (area : List ℕ) where
+  pub ranked-41 : wideTarget t ≡ true → Laid (rankedFault kind choice t value here priority) (ranked t value here priority) area (Written.Refused 41) area
+  unfolding rankedFault
+  ranked-41 e = rw e (laid-fault 41 _ area (λ z. omega arith))
+
+  pub ranked-39 : wideTarget t ≡ false → longest < length value → Laid (rankedFault kind choice t value here priority) (ranked t value here priority) area (Written.Refused 39) area
+  unfolding rankedFault readService itemsOf refusalOf
+  ranked-39 e h =
+      let l : longest < length (ranked t value here priority) = omega (arith, ranked-length t value here priority) in
+      rw (e, lt-ltb _ _ l) (laid-fault 39 _ area (λ z. omega arith))
+
+  pub ranked-settled : (later o : List ℕ) (r : Written) → wideTarget t ≡ false → o ≡ ranked t value here priority → Laid (readFault kind choice o) o area r later → Laid (rankedFault kind choice t value here priority) (ranked t value here priority) area r later
+  unfolding rankedFault
+  ranked-settled later o r e d h = rw e (subst (λ (x : List ℕ). Laid (readFault kind choice x) x area r later) d h)
+
+-- an ack is as a request without priority
+ack-octets : (a : ReadAck) (value : List ℕ) → ranked (a .target) value false 0 ≡ octetsOf (ReadPropertyAck a) value
+unfolding ranked octetsOf encodeAll
+ack-octets a value = rw append-nil
+
+-- which service it is
+module _ (v : Service) (value area later : List ℕ) (r : Written) where
+  -- one that does not look at the value
+  pub as-bare : (w : Service) → v ≡ w → octetsOf w [] ≡ octetsOf w value → Laid (faultOf w []) (octetsOf w []) area r later → Laid (faultOf v value) (octetsOf v value) area r later
+  unfolding faultOf
+  as-bare w e d h = rw (e, ← d) h
+
+  pub as-ack : (a : ReadAck) → v ≡ ReadPropertyAck a → Laid (rankedFault 3 12 (a .target) value false 0) (ranked (a .target) value false 0) area r later → Laid (faultOf v value) (octetsOf v value) area r later
+  unfolding faultOf rankedFault tooWide
+  as-ack a e h = rw (e, ← ack-octets a value) h
+
+  pub as-request : (w : WriteRequest) → v ≡ WriteProperty w → Laid (rankedFault 0 15 (w .target) value (w .ranked) (w .priority)) (ranked (w .target) value (w .ranked) (w .priority)) area r later → Laid (faultOf v value) (octetsOf v value) area r later
+  unfolding faultOf rankedFault tooWide octetsOf
+  as-request w e h = rw e h

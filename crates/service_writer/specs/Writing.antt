@@ -1,0 +1,92 @@
+-- "Service writers take a value as octets and give 41 for a field too wide for its layout, else the number that reading their output would give."
+use Prim.Native.Nat.{ℕ, _+_}
+use mathlib.Core.Path.{_≡_}
+use mathlib.Core.Bool.{Bool, true, false}
+use mathlib.Core.List.{List, [], _∷_, _++_}
+use lib.ListN.{length}
+use lib.Dec.{ltb}
+use Rattle.octets.specs.Choice.{pick}
+use Rattle.octets.specs.Splice.{splice}
+use Rattle.octets.specs.Numbers.{widthOf}
+use Rattle.tags.specs.Layout.Thing.{opening, closing}
+use Rattle.tags.specs.Layout as tag
+use Rattle.items.specs.Grammar.{encodeAll}
+use Rattle.services.specs.Reading.{lastInstance, readService}
+use Rattle.services.specs.Layout.{shortest, optional, pointed, encode}
+use Rattle.services.specs.Shows.{pointedOf, messageOf}
+use Rattle.services.specs.declared.Answer.{Answer}
+use Rattle.services.specs.declared.Answer.the-variants.{Good, Refused}
+use Rattle.services.specs.declared.Service.{Service}
+use Rattle.services.specs.declared.Service.the-variants.{ReadProperty, ReadPropertyAck, WriteProperty, WhoIs, IAm, Error}
+use Rattle.services.specs.declared.Target.{Target}
+
+-- the kind of PDU and the choice whose parameters a service is; Error has one layout for 12 and 15
+abbrev pub kindOf : Service → ℕ
+kindOf (ReadProperty t) = 0
+kindOf (ReadPropertyAck a) = 3
+kindOf (WriteProperty w) = 0
+kindOf (WhoIs w) = 1
+kindOf (IAm i) = 1
+kindOf (Error f) = 5
+
+abbrev pub choiceOf : Service → ℕ
+choiceOf (ReadProperty t) = 12
+choiceOf (ReadPropertyAck a) = 12
+choiceOf (WriteProperty w) = 15
+choiceOf (WhoIs w) = 8
+choiceOf (IAm i) = 0
+choiceOf (Error f) = 12
+
+-- "a group 3, the value": the value's octets as they are, between the group's tags
+unfoldable pub grouped : List ℕ → List ℕ
+grouped value = tag.encode (opening 3) ++ (value ++ tag.encode (closing 3))
+
+-- a target, a value and an optional priority
+unfoldable pub ranked : Target → List ℕ → Bool → ℕ → List ℕ
+ranked t value here priority = encodeAll (pointed (pointedOf t)) ++ (grouped value ++ encodeAll (optional here 4 priority))
+
+-- the octets of a service with a value's octets; one without a value does not look at them
+unfoldable pub octetsOf : Service → List ℕ → List ℕ
+octetsOf (ReadProperty t) value = encode (messageOf (ReadProperty t) [])
+octetsOf (ReadPropertyAck a) value = encodeAll (pointed (pointedOf (a .target))) ++ grouped value
+octetsOf (WriteProperty w) value = ranked (w .target) value (w .ranked) (w .priority)
+octetsOf (WhoIs w) value = encode (messageOf (WhoIs w) [])
+octetsOf (IAm i) value = encode (messageOf (IAm i) [])
+octetsOf (Error f) value = encode (messageOf (Error f) [])
+
+-- "10-bit type, 22-bit instance": what a layout cannot hold
+unfoldable pub wideTarget : Target → Bool
+wideTarget t = pick (ltb 1023 (t .object)) true (ltb lastInstance (t .instance))
+
+unfoldable pub tooWide : Service → Bool
+tooWide (ReadProperty t) = wideTarget t
+tooWide (ReadPropertyAck a) = wideTarget (a .target)
+tooWide (WriteProperty w) = wideTarget (w .target)
+tooWide (WhoIs w) = false
+tooWide (IAm i) = ltb lastInstance (i .instance)
+tooWide (Error f) = false
+
+-- the number of a refusal, 0 for none
+unfoldable pub refusalOf : Answer → ℕ
+refusalOf (Good v) = 0
+refusalOf (Refused x) = x
+
+-- the number that reading the octets gives, 0 for none
+abbrev pub readFault : ℕ → ℕ → List ℕ → ℕ
+readFault kind choice o = refusalOf (readService kind choice o)
+
+unfoldable pub faultOf : Service → List ℕ → ℕ
+faultOf v value = pick (tooWide v) 41 (readFault (kindOf v) (choiceOf v) (octetsOf v value))
+
+-- the same for a target, a value and an optional priority
+unfoldable pub rankedFault : ℕ → ℕ → Target → List ℕ → Bool → ℕ → ℕ
+rankedFault kind choice t value here priority = pick (wideTarget t) 41 (readFault kind choice (ranked t value here priority))
+
+-- a number's item: its tag octet, to which the length is added, and the number in its shortest form
+unfoldable pub numberItem : ℕ → ℕ → List ℕ
+numberItem head v = (head + widthOf v) ∷ shortest v
+
+-- octets were laid at a place, and what follows them begins at r
+pub record Put (area : List ℕ) (at : ℕ) (o : List ℕ) (r : ℕ) (later : List ℕ) : Type 0 where
+  pub next : r ≡ at + length o
+  pub laid : later ≡ splice area at o

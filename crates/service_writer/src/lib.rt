@@ -1,0 +1,119 @@
+// The six services, written into a lent area.
+mod layouts;
+
+use octets::Written;
+use services::Answer;
+use services::Fault;
+use services::IAm;
+use services::Service;
+use services::Target;
+use services::WhoIs;
+ghost use mathlib.Core.Path.{_≡_};
+ghost use mathlib.Core.List.{[]};
+ghost use Rattle.octets.specs.Laid.{Laid};
+ghost use Rattle.service_writer.specs.Writing.{wideTarget, readFault, ranked, rankedFault, octetsOf, faultOf};
+
+// The service with the value's octets, from the area's first octet. A service without a value does not look at them, and none looks at the span inside it.
+pub fn write(v: Service, value: &[u8], out: &mut [u8]) -> Written
+    ensures { λ r. ⌜ Laid (faultOf v (now (value .entry))) (octetsOf v (now (value .entry))) (now (out .entry)) r (now (out .exit)) ⌝ }
+{
+    match v {
+        Service::ReadProperty(t) => write_target(t, out),
+        Service::ReadPropertyAck(a) => write_ranked(3, 12, a.target, value, false, 0, out),
+        Service::WriteProperty(w) => {
+            write_ranked(0, 15, w.target, value, w.ranked, w.priority, out)
+        }
+        Service::WhoIs(w) => write_limits(w, out),
+        Service::IAm(i) => write_device(i, out),
+        Service::Error(f) => write_error(f, out),
+    }
+}
+
+// Whether the object's type or instance is too wide for its layout.
+fn wide(t: Target) -> bool
+    ensures { λ r. ⌜ r ≡ wideTarget t ⌝ }
+{
+    if 1023 < t.object {
+        return true;
+    }
+    4194303 < t.instance
+}
+
+// Octets that were laid elsewhere, where reading accepts them; else the number that it gives. 61 comes last.
+fn settle(kind: u8, choice: u8, o: &[u8], out: &mut [u8]) -> Written
+    ensures { λ r. ⌜ Laid (readFault kind choice (now (o .entry))) (now (o .entry)) (now (out .entry)) r (now (out .exit)) ⌝ }
+{
+    let a = services::read(kind, choice, o);
+    match a {
+        Answer::Good(_) => {
+            let n = o.len();
+            if out.len() < n {
+                return Written::Refused(61);
+            }
+            octets::copy(o, out, 0);
+            Written::Wrote(n)
+        }
+        Answer::Refused(x) => Written::Refused(x),
+    }
+}
+
+fn write_target(t: Target, out: &mut [u8]) -> Written
+    ensures { λ r. ⌜ Laid (faultOf (Service.ReadProperty t) []) (octetsOf (Service.ReadProperty t) []) (now (out .entry)) r (now (out .exit)) ⌝ }
+{
+    if wide(t) {
+        return Written::Refused(41);
+    }
+    let mut work = [0u8; 24];
+    let n = layouts::put_target(&mut work, t);
+    settle(0, 12, &work[..n], out)
+}
+
+fn write_limits(w: WhoIs, out: &mut [u8]) -> Written
+    ensures { λ r. ⌜ Laid (faultOf (Service.WhoIs w) []) (octetsOf (Service.WhoIs w) []) (now (out .entry)) r (now (out .exit)) ⌝ }
+{
+    let mut work = [0u8; 24];
+    let n = layouts::put_limits(&mut work, w);
+    settle(1, 8, &work[..n], out)
+}
+
+fn write_device(i: IAm, out: &mut [u8]) -> Written
+    ensures { λ r. ⌜ Laid (faultOf (Service.IAm i) []) (octetsOf (Service.IAm i) []) (now (out .entry)) r (now (out .exit)) ⌝ }
+{
+    if 4194303 < i.instance {
+        return Written::Refused(41);
+    }
+    let mut work = [0u8; 24];
+    let n = layouts::put_device(&mut work, i);
+    settle(1, 0, &work[..n], out)
+}
+
+fn write_error(f: Fault, out: &mut [u8]) -> Written
+    ensures { λ r. ⌜ Laid (faultOf (Service.Error f) []) (octetsOf (Service.Error f) []) (now (out .entry)) r (now (out .exit)) ⌝ }
+{
+    let mut work = [0u8; 24];
+    let n = layouts::put_error(&mut work, f);
+    settle(5, 12, &work[..n], out)
+}
+
+// A target, a value and an optional priority: over 16,384 octets of value the reading gives 39, and else the whole fits the work area.
+fn write_ranked(
+    kind: u8,
+    choice: u8,
+    t: Target,
+    value: &[u8],
+    here: bool,
+    priority: u8,
+    out: &mut [u8],
+) -> Written
+    ensures { λ r. ⌜ Laid (rankedFault kind choice t (now (value .entry)) here priority) (ranked t (now (value .entry)) here priority) (now (out .entry)) r (now (out .exit)) ⌝ }
+{
+    if wide(t) {
+        return Written::Refused(41);
+    }
+    if 16384 < value.len() {
+        return Written::Refused(39);
+    }
+    let mut work = [0u8; 16408];
+    let n = layouts::put_ranked(&mut work, t, value, here, priority);
+    settle(kind, choice, &work[..n], out)
+}
