@@ -1,3 +1,4 @@
 pub mod Items
 pub mod Refusals
 pub mod Promise
+pub mod Trips

@@ -13,7 +13,7 @@ use Rattle.tags.specs.Layout as tag
 use Rattle.items.specs.Grammar.{encodeAll}
 use Rattle.services.specs.Reading.{lastInstance, readService}
 use Rattle.services.specs.Layout.{shortest, optional, pointed, encode}
-use Rattle.services.specs.Shows.{pointedOf, messageOf}
+use Rattle.services.specs.Shows.{pointedOf, messageOf, valueOctets}
 use Rattle.services.specs.declared.Answer.{Answer}
 use Rattle.services.specs.declared.Answer.the-variants.{Good, Refused}
 use Rattle.services.specs.declared.Service.{Service}
@@ -53,6 +53,15 @@ octetsOf (WriteProperty w) value = ranked (w .target) value (w .ranked) (w .prio
 octetsOf (WhoIs w) value = encode (messageOf (WhoIs w) [])
 octetsOf (IAm i) value = encode (messageOf (IAm i) [])
 octetsOf (Error f) value = encode (messageOf (Error f) [])
+
+-- the octets of the value of a service that was read
+abbrev pub valueIn : List ℕ → Service → List ℕ
+valueIn o (ReadProperty t) = []
+valueIn o (ReadPropertyAck a) = valueOctets o (a .value)
+valueIn o (WriteProperty w) = valueOctets o (w .value)
+valueIn o (WhoIs w) = []
+valueIn o (IAm i) = []
+valueIn o (Error f) = []
 
 -- "10-bit type, 22-bit instance": what a layout cannot hold
 unfoldable pub wideTarget : Target → Bool

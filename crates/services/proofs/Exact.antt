@@ -64,19 +64,7 @@ value-good (whoIs limited low high) whole g = none-good
 value-good (iAm instance longest segmentation vendor) whole g = none-good
 value-good (errorOf class code) whole g = none-good
 
--- the value that was read is the value that stands there
-cut-same : (x : List ℕ) (ts us : List Thing) → Reads x ts → x ≡ encodeAll us → Grammar us → ts ≡ us
-cut-same x ts us r e g = reads-one x ts us r (subst (λ (y : List ℕ). Reads y us) (sym e) (exact .complete us g))
-
-value-same : (o : List ℕ) (v : Service) (ts us : List Thing) → ValueReads o v ts → ValueStands o v us → WholeValue (messageOf v us) → Grammar (thingsOfMessage (messageOf v us)) → ts ≡ us
-unfolding messageOf
-value-same o (ReadProperty t) ts us r s whole g = r ∙ sym s
-value-same o (ReadPropertyAck a) ts us r s whole g = cut-same _ ts us r s (value-good (messageOf (ReadPropertyAck a) us) whole g)
-value-same o (WriteProperty w) ts us r s whole g = cut-same _ ts us r s (value-good (messageOf (WriteProperty w) us) whole g)
-value-same o (WhoIs w) ts us r s whole g = r ∙ sym s
-value-same o (IAm i) ts us r s whole g = r ∙ sym s
-value-same o (Error f) ts us r s whole g = r ∙ sym s
-
+-- a value that stands somewhere is read by itself, as one list of items
 value-reads : (o : List ℕ) (v : Service) (ts : List Thing) → ValueStands o v ts → Grammar ts → ValueReads o v ts
 value-reads o (ReadProperty t) ts s g = s
 value-reads o (ReadPropertyAck a) ts s g = subst (λ (y : List ℕ). Reads y ts) (sym s) (exact .complete ts g)
@@ -85,18 +73,54 @@ value-reads o (WhoIs w) ts s g = s
 value-reads o (IAm i) ts s g = s
 value-reads o (Error f) ts s g = s
 
+value-one : (o : List ℕ) (v : Service) (ts us : List Thing) → ValueReads o v ts → ValueReads o v us → ts ≡ us
+value-one o (ReadProperty t) ts us a b = a ∙ sym b
+value-one o (ReadPropertyAck k) ts us a b = reads-one _ ts us a b
+value-one o (WriteProperty w) ts us a b = reads-one _ ts us a b
+value-one o (WhoIs w) ts us a b = a ∙ sym b
+value-one o (IAm i) ts us a b = a ∙ sym b
+value-one o (Error f) ts us a b = a ∙ sym b
+
+-- the items of a service's value are those of its message's
+value-shown : (o : List ℕ) (v : Service) (ts : List Thing) → ValueStands o v ts → WholeValue (messageOf v ts) → Grammar (thingsOfMessage (messageOf v ts)) → Grammar ts
+unfolding messageOf
+value-shown o (ReadProperty t) ts s whole g = subst Grammar (sym s) none-good
+value-shown o (ReadPropertyAck a) ts s whole g = value-good (messageOf (ReadPropertyAck a) ts) whole g
+value-shown o (WriteProperty w) ts s whole g = value-good (messageOf (WriteProperty w) ts) whole g
+value-shown o (WhoIs w) ts s whole g = subst Grammar (sym s) none-good
+value-shown o (IAm i) ts s whole g = subst Grammar (sym s) none-good
+value-shown o (Error f) ts s whole g = subst Grammar (sym s) none-good
+
+-- what an accepted reading is: a message of the kind and choice that keeps the rules, whose layout the octets are
+pub record Accepted (kind choice : ℕ) (o : List ℕ) (v : Service) : Type 0 where
+  pub value : List Thing
+  pub stands : ValueStands o v value
+  pub items : ValueReads o v value
+  pub valid : ValidFor kind choice (messageOf v value)
+  pub octets : o ≡ encode (messageOf v value)
+
 module _ (kind choice : ℕ) where
-  sound : (o : List ℕ) (m : Message) → Octets o → Shows kind choice o m → ValidFor kind choice m × (o ≡ encode m)
+  pub accepted : (o : List ℕ) → Octets o → (v : Service) → readService kind choice o ≡ Good v → Accepted kind choice o v
   unfolding readService
-  sound o m os r =
-      let g = tags-good (layoutFor kind choice o) (itemsOf o) (r .service) (r .read) in
+  accepted o os v e =
+      let g = tags-good (layoutFor kind choice o) (itemsOf o) v e in
       let w = written o os (g .0) (g .1 .0) (g .1 .1) in
-      let e : layoutFor kind choice o (recordsFrom 0 0 (w .things)) ≡ Good (r .service) = subst (λ (rs : List Rec). layoutFor kind choice o rs ≡ Good (r .service)) (w .records) (g .1 .2) in
-      let s = layout-shown o os kind choice (w .things) (r .service) (all-here o (w .things) (w .grammar) (w .octets)) e in
-      let i : Grammar (thingsOfMessage (messageOf (r .service) (s .value))) = subst Grammar (s .things) (w .grammar) in
-      let same : messageOf (r .service) (s .value) ≡ m = ap (messageOf (r .service)) (sym (value-same o (r .service) (r .value) (s .value) (r .items) (s .octets) (s .whole) i)) ∙ r .shown in
-      let ok : ValidFor kind choice (messageOf (r .service) (s .value)) = record { layout = s .layout; valid = record { ranges = s .ranges; value = s .whole; items = i } } in
-      (subst (ValidFor kind choice) same ok, w .octets ∙ ap encodeAll (s .things) ∙ ap encode same)
+      let r : layoutFor kind choice o (recordsFrom 0 0 (w .things)) ≡ Good v = subst (λ (rs : List Rec). layoutFor kind choice o rs ≡ Good v) (w .records) (g .1 .2) in
+      let s = layout-shown o os kind choice (w .things) v (all-here o (w .things) (w .grammar) (w .octets)) r in
+      let i : Grammar (thingsOfMessage (messageOf v (s .value))) = subst Grammar (s .things) (w .grammar) in
+      record {
+        value = s .value;
+        stands = s .octets;
+        items = value-reads o v (s .value) (s .octets) (value-shown o v (s .value) (s .octets) (s .whole) i);
+        valid = record { layout = s .layout; valid = record { ranges = s .ranges; value = s .whole; items = i } };
+        octets = w .octets ∙ ap encodeAll (s .things);
+      }
+
+  sound : (o : List ℕ) (m : Message) → Octets o → Shows kind choice o m → ValidFor kind choice m × (o ≡ encode m)
+  sound o m os r =
+      let a = accepted o os (r .service) (r .read) in
+      let same : messageOf (r .service) (a .value) ≡ m = ap (messageOf (r .service)) (value-one o (r .service) (a .value) (r .value) (a .items) (r .items)) ∙ r .shown in
+      (subst (ValidFor kind choice) same (a .valid), a .octets ∙ ap encode same)
 
   complete : (m : Message) → ValidFor kind choice m → Shows kind choice (encode m) m
   unfolding readService
