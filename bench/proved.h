@@ -1,0 +1,18 @@
+/* The proved listener behind the names that bench.c calls: the library's calls on lent areas. */
+static uint8_t state[HB_STATE];
+static void fresh(void) { hb_fresh(state, HB_STATE); }
+static size_t feed(const uint8_t *s, size_t n, int *reported)
+{
+    size_t eaten;
+    uint8_t said;
+    hb_feed(state, HB_STATE, s, n, report, 16, area, AREA, &eaten, &said);
+    *reported = said;
+    return eaten;
+}
+static int silence(void)
+{
+    uint8_t said;
+    hb_silence(state, HB_STATE, report, 16, &said);
+    return said;
+}
+static void forget(uint8_t slot) { hb_forget(state, HB_STATE, slot); }
