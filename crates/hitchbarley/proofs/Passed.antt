@@ -17,7 +17,8 @@ use Rattle.collector.specs.declared.Collector.{Collector}
 use Rattle.collector.specs.declared.Fed.{Fed}
 use Rattle.collector.specs.declared.Fell.{Fell}
 use Rattle.collector.specs.declared.Forgot.{Forgot}
-use Rattle.state.specs.Layout.{stateSize, stateOctets, flag}
+use Rattle.records.specs.Flag.{flag}
+use Rattle.state.specs.Layout.{stateSize, stateOctets}
 use Rattle.state.specs.Calls.{loadOf, Loads, Saves}
 use Rattle.state.specs.declared.Loaded.{Loaded}
 use Rattle.state.proofs.Exact.{accepted-size}

@@ -1,1 +1,4 @@
+pub mod Answers
+pub mod Headers
+pub mod Items
 pub mod Trunk

@@ -14,7 +14,8 @@ use Rattle.rebuild.specs.declared.Key.{Key}
 use Rattle.collector.specs.Report.{reportSize}
 use Rattle.collector.specs.Calls.{box, sized, sound, slotsOf, saidSo, written, Answered, feedRefusal, feeding, silenceRefusal, stilling}
 use Rattle.collector.specs.declared.Collector.{Collector}
-use Rattle.state.specs.Layout.{stateOctets, flag}
+use Rattle.records.specs.Flag.{flag}
+use Rattle.state.specs.Layout.{stateOctets}
 use Rattle.state.specs.Calls.{loadOf, Loads}
 
 -- what a call answers and leaves: its number, the numbers given back, the lent areas

@@ -1,3 +1,6 @@
 // Hitchbarley for C and Rust programs: every call over numbers and lent octets, with the promises of the calls below.
-mod sums_calls;
+mod answers;
+mod header_calls;
+mod item_calls;
+mod sum_calls;
 mod trunk_calls;

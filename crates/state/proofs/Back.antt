@@ -12,9 +12,10 @@ use Rattle.frames.specs.declared.Phase.{Phase}
 use Rattle.frames.specs.declared.Phase.the-variants.{Hunting, Preamble, Header, Data}
 use Rattle.rebuild.specs.declared.Slot.{Slot}
 use Rattle.collector.specs.declared.Collector.{Collector}
-use Rattle.state.specs.Layout.{phaseOctets, flag, slotOctets, slotsOctets, stateOctets, Fits}
+use Rattle.records.specs.Flag.{flag}
+use Rattle.state.specs.Layout.{phaseOctets, slotOctets, slotsOctets, stateOctets, Fits}
 use Rattle.state.specs.Calls.{phaseGood, phaseAt, slotsGood, slotAt, stateGood, stateAt}
-use Rattle.state.proofs.Areas.{phase-size}
+use Rattle.state.proofs.Parts.{phase-size}
 
 two-back : (v : ℕ) → v / 256 * 256 + v % 256 ≡ v
 two-back v = omega arith

@@ -1,4 +1,4 @@
-pub mod Areas
+pub mod Parts
 pub mod Back
 pub mod Stands
 pub mod Exact

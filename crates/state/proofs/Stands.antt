@@ -13,9 +13,10 @@ use Rattle.octets.specs.Choice.{both, by-test, pick-so}
 use Rattle.octets.specs.Reading.{oct, Octets}
 use Rattle.octets.specs.Has.{Has, has-append, has-take, has-all}
 use Rattle.collector.specs.declared.Collector.{Collector}
-use Rattle.state.specs.Layout.{phaseOctets, flag, slotOctets, slotsOctets, stateOctets, PhaseFits, SlotFits, Fits}
+use Rattle.records.specs.Flag.{flag}
+use Rattle.state.specs.Layout.{phaseOctets, slotOctets, slotsOctets, stateOctets, PhaseFits, SlotFits, Fits}
 use Rattle.state.specs.Calls.{phaseGood, phaseAt, slotsGood, slotAt, stateGood, stateAt}
-use Rattle.state.proofs.Areas.{receiver-size, slots-size, state-parts}
+use Rattle.state.proofs.Parts.{receiver-size, slots-size, state-parts}
 
 -- what is cut out of octets is octets
 pub octets-cut : (o : List ℕ) → Octets o → (n at : ℕ) → Octets (take n (drop at o))

@@ -8,10 +8,10 @@
 --              held (2, high octet first)
 use Prim.Native.Nat.{ℕ, _/_, _%_, _<_}
 use mathlib.Core.Path.{_≡_}
-use mathlib.Core.Bool.{Bool, true, false}
 use mathlib.Core.List.{List, [], _∷_, _++_}
 use lib.ListN.{length}
 use Rattle.octets.specs.Reading.{Octets}
+use Rattle.records.specs.Flag.{flag}
 use Rattle.frames.specs.declared.Phase.{Phase}
 use Rattle.frames.specs.declared.Phase.the-variants.{Hunting, Preamble, Header, Data}
 use Rattle.rebuild.specs.declared.Slot.{Slot}
@@ -26,10 +26,6 @@ phaseOctets Hunting = 0 ∷ 0 ∷ 0 ∷ []
 phaseOctets Preamble = 1 ∷ 0 ∷ 0 ∷ []
 phaseOctets (Header got) = 2 ∷ 0 ∷ got ∷ []
 phaseOctets (Data got) = 3 ∷ got / 256 ∷ got % 256 ∷ []
-
-abbrev pub flag : Bool → ℕ
-flag false = 0
-flag true = 1
 
 abbrev pub slotOctets : Slot → List ℕ
 slotOctets x =

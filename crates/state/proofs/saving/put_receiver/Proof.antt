@@ -1,7 +1,8 @@
 use denote.Ref.{now}
 use Rattle.state.specs.Layout.{phaseOctets}
 use mathlib.Core.List.{[], _∷_}
-use Rattle.state.proofs.Areas.{four-laid, phase-size}
+use Rattle.records.proofs.Areas.{four-laid}
+use Rattle.state.proofs.Parts.{phase-size}
 use native.Mathlib.Omega.{arith}
 use mathlib.Core.Path.{_≡_, refl}
 use lib.ListN.{length}

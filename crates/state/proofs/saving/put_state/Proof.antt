@@ -1,4 +1,4 @@
-use Rattle.state.proofs.Areas.{receiver-size, slots-size, state-laid, length-of-map}
+use Rattle.state.proofs.Parts.{receiver-size, slots-size, state-laid, length-of-map}
 use mathlib.Core.Path.{_≡_}
 use lib.ListN.{length}
 use borrow.Author.Needs.{needs}

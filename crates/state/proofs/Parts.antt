@@ -1,11 +1,10 @@
--- Arrays filled from an area, and areas filled part by part.
-use Prim.Native.Nat.{ℕ, _+_, _≤_}
+-- The parts of a state, laid one after the other.
+use Prim.Native.Nat.{ℕ, _+_}
 use native.Mathlib.Omega.{arith}
 use mathlib.Core.Path.{_≡_, refl, sym, _∙_}
-use mathlib.Core.List.{List, [], _∷_, _++_, map, append-nil, append-assoc}
-use lib.ListN.{length, getD, take, drop, length-append, length-drop, length-map, drop-of-length-le}
-use lib.Seq.{length-take-le}
-use Rattle.octets.specs.Splice.{splice, splice-front, splice-then}
+use mathlib.Core.List.{List, [], _∷_, _++_, map, append-assoc}
+use lib.ListN.{length, getD, length-append, length-map}
+use Rattle.octets.specs.Splice.{splice}
 use Rattle.frames.specs.declared.Phase.{Phase}
 use Rattle.frames.specs.declared.Phase.the-variants.{Hunting, Preamble, Header, Data}
 use Rattle.frames.specs.declared.Receiver.{Receiver}
@@ -13,37 +12,8 @@ use Rattle.rebuild.specs.declared.Slot.{Slot}
 use Rattle.rebuild.specs.View.{freeSlot}
 use Rattle.collector.specs.declared.Collector.{Collector}
 use Rattle.state.specs.Layout.{phaseOctets, slotOctets, slotsOctets, stateOctets}
+use Rattle.records.proofs.Areas.{laid-whole, two-laid, four-laid}
 
--- octets laid over as many are all there is
-pub laid-whole : (a s later : List ℕ) → length a ≡ length s → later ≡ splice a 0 s → later ≡ s
-laid-whole a s later h e =
-    let k : length a ≤ length s = omega arith in
-    let d : drop (length s) a ≡ [] = drop-of-length-le a k in
-    e ∙ splice-front a s ∙ rw (d, append-nil)
-
--- a part of an area, copied into an array of its size
-pub copied : (n at : ℕ) (a o later : List ℕ) → later ≡ splice a 0 (take n (drop at o)) → length a ≡ n → at + n ≤ length o → later ≡ take n (drop at o)
-copied n at a o later e h k =
-    let l : length (take n (drop at o)) ≡ n = length-take-le n (drop at o) (rw length-drop (omega arith)) in
-    laid-whole a (take n (drop at o)) later (h ∙ sym l) e
-
--- two parts and four parts, one right after the other
-pub two-laid : (area : List ℕ) {l₁ l₂ : List ℕ} (at₁ at₂ : ℕ) (a b : List ℕ) → l₁ ≡ splice area at₁ a → l₂ ≡ splice l₁ at₂ b → at₁ + length a ≡ at₂ → at₂ + length b ≤ length area → l₂ ≡ splice area at₁ (a ++ b)
-two-laid area at₁ at₂ a b e₁ e₂ p h = splice-then area at₁ a b (omega arith) e₁ (rw p e₂)
-
-pub four-laid : (area : List ℕ) {l₁ l₂ l₃ l₄ : List ℕ} (at₁ at₂ at₃ at₄ : ℕ) (a b c d : List ℕ)
-    → l₁ ≡ splice area at₁ a → l₂ ≡ splice l₁ at₂ b → l₃ ≡ splice l₂ at₃ c → l₄ ≡ splice l₃ at₄ d
-    → at₁ + length a ≡ at₂ → at₂ + length b ≡ at₃ → at₃ + length c ≡ at₄ → at₄ + length d ≤ length area
-    → l₄ ≡ splice area at₁ (a ++ (b ++ (c ++ d)))
-four-laid area {l₁} {l₂} {l₃} {l₄} at₁ at₂ at₃ at₄ a b c d e₁ e₂ e₃ e₄ p q r h =
-    let ab : at₁ + length (a ++ b) ≡ at₃ = rw length-append (omega arith) in
-    let abc : at₁ + length ((a ++ b) ++ c) ≡ at₄ = rw length-append (omega arith) in
-    let s₂ : l₂ ≡ splice area at₁ (a ++ b) = two-laid area at₁ at₂ a b e₁ e₂ p (omega arith) in
-    let s₃ : l₃ ≡ splice area at₁ ((a ++ b) ++ c) = two-laid area at₁ at₃ (a ++ b) c s₂ e₃ ab (omega arith) in
-    let s₄ : l₄ ≡ splice area at₁ (((a ++ b) ++ c) ++ d) = two-laid area at₁ at₄ ((a ++ b) ++ c) d s₃ e₄ abc h in
-    s₄ ∙ simp append-assoc
-
--- ---- the parts of a state
 pub phase-size : (p : Phase) → length (phaseOctets p) ≡ 3
 phase-size Hunting = refl
 phase-size Preamble = refl

@@ -1,0 +1,3 @@
+// Headers as records of octets at fixed places, for lent areas.
+pub mod application;
+pub mod network;
