@@ -1,1 +1,5 @@
 pub mod Passed
+pub mod Answered
+pub mod Headers
+pub mod Items
+pub mod Trips
