@@ -45,9 +45,10 @@ npdu-again s os z =
 
 pub apdu-again : (s : List ℕ) (p : Pdu) → readApdu s ≡ Good p → (apduFault (apduRecord p) ≡ 0) × (header (apduAt (apduRecord p)) ≡ take (paramsAt p) s)
 apdu-again s p e =
-    let b = read-writes-back s p e in
-    (apdu-sized (apduRecord p) (apdu-size p) (apdu-type-most p) ∙ ap Apdu.faultOf (apdu-back p) ∙ b .0,
-    ap header (apdu-back p) ∙ sym (rw (← b .1) (take-at (header p) (drop (paramsAt p) s) (paramsAt p) (header-length p))))
+    let b = read-writes-back s p e in (
+      apdu-sized (apduRecord p) (apdu-size p) (apdu-type-most p) ∙ ap Apdu.faultOf (apdu-back p) ∙ b .0,
+      ap header (apdu-back p) ∙ sym (rw (← b .1) (take-at (header p) (drop (paramsAt p) s) (paramsAt p) (header-length p))),
+    )
 
 -- ---- written, then read
 pub npdu-reads : (o t : List ℕ) → npduFault o ≡ 0 → readNpdu (encode (npduAt o) ++ t) ≡ accepted (length (encode (npduAt o))) (shown (npduAt o))

@@ -43,7 +43,12 @@ pub extern "C" fn hb_item_next(octets: &[u8], at: usize, next: &mut usize) -> u8
 
 // The octets of the items that these records name in the source: 0, 62 or 61; and how many were written.
 #[no_mangle]
-pub extern "C" fn hb_items_write(listed: &[u8], source: &[u8], out: &mut [u8], wrote: &mut usize) -> u8
+pub extern "C" fn hb_items_write(
+    listed: &[u8],
+    source: &[u8],
+    out: &mut [u8],
+    wrote: &mut usize,
+) -> u8
     ensures { λ r. ⌜ Writes (writeFault (now (listed .entry)) (now (source .entry))) (encodeAll (thingsOf (now (source .entry)) (recordsIn (now (listed .entry))))) (now (out .entry)) r (now (wrote .exit)) (now (out .exit)) ⌝ }
 {
     let w = item_writer::write(listed, source, out);
