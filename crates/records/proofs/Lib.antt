@@ -1,3 +1,5 @@
 pub mod Areas
 pub mod Networks
 pub mod Applications
+pub mod Services
+pub mod Spans

@@ -1,3 +1,4 @@
-// Headers as records of octets at fixed places, for lent areas.
+// Headers and services as records of octets at fixed places, for lent areas.
 pub mod application;
 pub mod network;
+pub mod service;
