@@ -1,18 +1,18 @@
 -- What a tag at a place says of the records that are left from there on.
-use Prim.Native.Nat.{ℕ, zero, suc, _+_, _-_, _/_, _≤_, _<_}
+use Prim.Native.Nat.{ℕ, zero, suc, _+_, _-_, _≤_, _<_}
 use native.Mathlib.Omega.{arith}
-use mathlib.Core.Path.{_≡_, refl, sym, ap, subst, _∙_}
+use mathlib.Core.Path.{_≡_, refl, sym, subst, _∙_}
 use mathlib.Core.List.{List, [], _∷_, _++_}
 use mathlib.Core.Bool.{Bool, true, false}
 use lib.ListN.{length}
 use lib.Dec.{ltb, leb, eqb}
 use borrow.Author.Tests.{lt-ltb, ltb-false, eqb-true, eqb-false, eq-eqb, ne-eqb, leb-true, leb-false}
-use Rattle.octets.specs.Choice.{pick, both, pick-not, pick-so, pick-which, by-test}
+use Rattle.octets.specs.Choice.{pick, both, pick-not, pick-so, by-test}
 use Rattle.octets.specs.Reading.{oct, Octets}
 use Rattle.octets.specs.Numbers.{valueAt, longForm}
 use Rattle.tags.specs.Types.{least, most}
 use Rattle.tags.specs.Head.{headAt}
-use Rattle.tags.specs.Layout.{Thing, Valid, Stands, Good, tagOf}
+use Rattle.tags.specs.Layout.{Thing, Valid, Good, tagOf}
 use Rattle.tags.specs.Layout.Thing.{application, boolean, context, opening, closing}
 use Rattle.tags.specs.Decide.{both-true}
 use Rattle.tags.specs.declared.Tag.{Tag}
@@ -22,7 +22,7 @@ use Rattle.tags.proofs.Exact.{head-sound}
 use Rattle.items.specs.Records.{Rec, rec}
 use Rattle.items.specs.Reading.{Out, itemsOf, counted, more, closes, step, itemAt, endOf, within, mostItems, deepest}
 use Rattle.items.specs.Reading.Out.{good, bad}
-use Rattle.items.specs.Left.{Left, Closes, Opens, AllDeep}
+use Rattle.items.specs.Left.{Left, Opens, AllDeep}
 use Rattle.items.specs.declared.One.{One}
 use Rattle.items.specs.declared.Tally.{Tally}
 use Rattle.items.proofs.Left.{left-all, left-end, left-refused, left-closing, left-item, left-group}
@@ -42,7 +42,6 @@ use Rattle.services.specs.declared.parts.Optional.{Optional}
 use Rattle.services.specs.declared.parts.OptionalPart.{OptionalPart}
 use Rattle.services.specs.declared.parts.TargetPart.{TargetPart}
 use Rattle.services.specs.declared.parts.ValuePart.{ValuePart}
-use Rattle.services.specs.declared.parts.Found.{Found}
 use Rattle.services.specs.declared.parts.Found.the-variants.{At, Missing}
 
 -- the first of the records that are left, or that there is none, is of another kind or number
