@@ -8,12 +8,11 @@ use mathlib.Core.Bool.{Bool, true, false}
 use lib.ListN.{length}
 use lib.Dec.{eqb}
 use borrow.Author.Tests.{eqb-true}
-use Rattle.octets.specs.Choice.{pick, pick-cases, both, by-test}
+use Rattle.octets.specs.Choice.{pick, pick-cases, both, by-test, both-true}
 use Rattle.octets.specs.Reading.{Octets}
 use Rattle.octets.specs.Numbers.{valueAt, digits, value-below}
 use Rattle.tags.specs.Layout.{Thing}
 use Rattle.tags.specs.Layout.Thing.{application, context}
-use Rattle.tags.specs.Decide.{both-true}
 use Rattle.items.specs.Records.{Rec}
 use Rattle.items.specs.Grammar.{encodeAll, recordsFrom}
 use Rattle.services.specs.Parts.{present, anyNumber, contextNumber, group, last}

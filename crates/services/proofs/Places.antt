@@ -7,14 +7,13 @@ use mathlib.Core.Bool.{Bool, true, false}
 use lib.ListN.{length}
 use lib.Dec.{ltb, leb, eqb}
 use borrow.Author.Tests.{lt-ltb, ltb-false, eqb-true, eqb-false, eq-eqb, ne-eqb, leb-true, leb-false}
-use Rattle.octets.specs.Choice.{pick, both, pick-not, pick-so, pick-which, by-test}
+use Rattle.octets.specs.Choice.{pick, both, pick-not, pick-so, pick-which, by-test, both-true}
 use Rattle.octets.specs.Reading.{oct, Octets}
 use Rattle.octets.specs.Numbers.{valueAt, longForm}
 use Rattle.tags.specs.Types.{least, most}
 use Rattle.tags.specs.Head.{headAt}
 use Rattle.tags.specs.Layout.{Thing, Valid, Stands, Good, tagOf}
 use Rattle.tags.specs.Layout.Thing.{application, boolean, context, opening, closing}
-use Rattle.tags.specs.Decide.{both-true}
 use Rattle.tags.specs.declared.Tag.{Tag}
 use Rattle.tags.specs.declared.Tag.the-variants.{Item, Opening, Closing}
 use Rattle.tags.proofs.Bounds.{TagIn, head-in}

@@ -7,13 +7,12 @@ use mathlib.Core.Bool.{Bool, true, false}
 use lib.ListN.{length, take, drop, length-append}
 use lib.Dec.{ltb, eqb, lit<}
 use borrow.Author.Tests.{eq-eqb, ne-eqb, eqb-true, ltb-false}
-use Rattle.octets.specs.Choice.{pick, both, non, pick-not, by-test}
+use Rattle.octets.specs.Choice.{pick, both, non, pick-not, by-test, both-true}
 use Rattle.octets.specs.Reading.{Octets}
 use Rattle.octets.specs.Has.{Has, has-left, has-right, has-bound, has-cut}
 use Rattle.octets.specs.Numbers.{valueAt, digits, value-below}
 use Rattle.tags.specs.Layout.{Thing, encode, tagLength, contentsOf, numberOctets}
 use Rattle.tags.specs.Layout.Thing.{application, boolean, context, opening, closing}
-use Rattle.tags.specs.Decide.{both-true}
 use Rattle.tags.proofs.Exact.{contents-stand}
 use Rattle.items.specs.Records.{Rec, rec}
 use Rattle.items.specs.Reading.{mostItems}
