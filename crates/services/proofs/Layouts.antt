@@ -7,19 +7,11 @@ use mathlib.Core.List.{List, [], _∷_, _++_, append-nil}
 use mathlib.Core.Bool.{Bool, true, false}
 use lib.Dec.{eqb}
 use borrow.Author.Tests.{eqb-true}
-<<<<<<< HEAD
 use Rattle.octets.specs.Choice.{pick-cases, both, by-test, both-true}
-=======
-use Rattle.octets.specs.Choice.{pick, pick-cases, both, by-test, both-true}
->>>>>>> laws
 use Rattle.octets.specs.Reading.{Octets}
 use Rattle.octets.specs.Numbers.{digits}
 use Rattle.tags.specs.Layout.{Thing}
 use Rattle.tags.specs.Layout.Thing.{application, context}
-<<<<<<< HEAD
-=======
-use Rattle.items.specs.Records.{Rec}
->>>>>>> laws
 use Rattle.items.specs.Grammar.{encodeAll, recordsFrom}
 use Rattle.services.specs.Parts.{present, anyNumber, contextNumber, group, last}
 use Rattle.services.specs.Reading.{lastInstance, layoutFor}
