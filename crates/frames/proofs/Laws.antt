@@ -9,7 +9,7 @@ use lib.Dec.{eqb, ltb, leb}
 use lib.ListN.{length, getD, drop, drop-of-length-le, length-set}
 use lib.Seq.{drop-cons}
 use borrow.Author.Tests.{lt-ltb, le-leb, lt-leb, ltb-true, ltb-false, leb-true, eqb-true, eqb-false}
-use Rattle.octets.specs.Choice.{both, by-test, pick-case, pick-cases}
+use Rattle.octets.specs.Choice.{both, both-left, both-right, true-both, both-false, by-test, pick-case, pick-cases}
 use Rattle.sums.specs.Sums.{headerLeft, dataLeft}
 use Rattle.frames.specs.declared.Phase.{Phase}
 use Rattle.frames.specs.declared.Phase.the-variants.{Hunting, Preamble, Header, Data}
@@ -21,21 +21,6 @@ use Rattle.frames.specs.declared.Moved.{Moved}
 use Rattle.frames.specs.Step.{most, lengthOf, Stepped, moved, headerLeaves, headerEnd, headerOctet, dataLeaves, dataEnd, dataOctet, dataSound, DataLeft, soundIn, soundOf, stepIn, stepOf, reportsOf, fedAt, feedFrom, feedOf, stillOf}
 
 -- ---- 59's test as facts, and back
-both-left : (a b : Bool) → both a b ≡ true → a ≡ true
-both-left true b e = refl
-both-left false b e = e
-
-both-right : (a b : Bool) → both a b ≡ true → b ≡ true
-both-right true b e = e
-both-right false b e = cc
-
-both-true : (a b : Bool) → a ≡ true → b ≡ true → both a b ≡ true
-both-true a b p q = rw (p, q)
-
-both-false : (a : Bool) → both a false ≡ false
-both-false true = refl
-both-false false = refl
-
 pub data-left : (got n : ℕ) → dataSound got n ≡ true → DataLeft got n
 unfolding dataSound
 data-left got n e =
@@ -48,7 +33,7 @@ data-left got n e =
 
 pub data-sound : (got n : ℕ) → DataLeft got n → dataSound got n ≡ true
 unfolding dataSound
-data-sound got n d = both-true _ _ (lt-ltb _ _ (d .some)) (both-true _ _ (le-leb _ _ (d .fits)) (lt-ltb _ _ (d .left)))
+data-sound got n d = true-both _ _ (lt-ltb _ _ (d .some)) (true-both _ _ (le-leb _ _ (d .fits)) (lt-ltb _ _ (d .left)))
 
 -- the code's tests, one after the other
 pub none : (got n : ℕ) → n ≡ 0 → dataSound got n ≡ false

@@ -7,11 +7,10 @@ use mathlib.Core.Bool.{Bool, true, false}
 use lib.ListN.{length, length-take, length-drop}
 use lib.Dec.{ltb, leb, eqb}
 use borrow.Author.Tests.{eqb-true, eqb-false, eq-eqb, leb-true, le-leb}
-use Rattle.octets.specs.Choice.{pick-so, both, by-test}
+use Rattle.octets.specs.Choice.{pick-so, both, by-test, both-true}
 use Rattle.tags.specs.Types.{longest, least, most}
 use Rattle.tags.specs.Layout.{Thing}
 use Rattle.tags.specs.Layout.Thing.{application, boolean, context, opening, closing}
-use Rattle.tags.specs.Decide.{both-true}
 use Rattle.items.specs.Records.{Rec, thingOf}
 use Rattle.items.specs.Reading.{deepest}
 use Rattle.items.specs.Grammar.{recordOf}

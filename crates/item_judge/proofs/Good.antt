@@ -8,10 +8,10 @@ use mathlib.Core.Bool.{true}
 use lib.ListN.{length, length-take, length-drop}
 use lib.Dec.{eqb}
 use borrow.Author.Tests.{eqb-true, eqb-false, eq-eqb, ltb-true, lt-ltb}
-use Rattle.octets.specs.Choice.{pick-case, by-test}
+use Rattle.octets.specs.Choice.{pick-case, by-test, both-true}
 use Rattle.tags.specs.Layout.{Thing, Valid, contentsOf, encode}
 use Rattle.tags.specs.Layout.Thing.{application, boolean, context, opening, closing}
-use Rattle.tags.specs.Decide.{validThing, both-true, valid-test, test-valid}
+use Rattle.tags.specs.Decide.{validThing, valid-test, test-valid}
 use Rattle.items.specs.Records.{Rec, thingOf, thingsOf}
 use Rattle.items.specs.Reading.{deepest}
 use Rattle.items.specs.Grammar.{Balanced, AllValid, recordOf, recordsFrom, depthAfter}

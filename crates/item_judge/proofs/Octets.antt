@@ -8,21 +8,11 @@ use lib.Dec.{ltb, eqb, lit<}
 use borrow.Author.Tests.{ltb-true, ltb-false}
 use Rattle.octets.specs.Choice.{pick-case, by-test}
 use Rattle.octets.specs.Reading.{Octets}
+use Rattle.octets.specs.Every.{octets-none, octets-join, octets-part}
 use Rattle.tags.specs.Layout.{Thing, encode, contentsOf}
 use Rattle.tags.proofs.Octets.{encode-octets}
 use Rattle.items.specs.Records.{Rec, thingOf, thingsOf}
 use Rattle.items.specs.Grammar.{AllValid, encodeAll}
-
-octets-append : (xs ys : List ℕ) → Octets xs → Octets ys → Octets (xs ++ ys)
-octets-append [] ys a b i = b i
-octets-append (x ∷ xs) ys a b zero = a 0
-octets-append (x ∷ xs) ys a b (suc i) = octets-append xs ys (λ j. a (suc j)) b i
-
-octets-part : (s : List ℕ) (p l : ℕ) → Octets s → Octets (take l (drop p s))
-octets-part s p l os i =
-    by-test (ltb i l)
-    (λ e. rw (getD-take l (drop p s) i 0 (ltb-true i l e), getD-drop p s i 0) (os (p + i)))
-    (λ e. let h : length (take l (drop p s)) ≤ i = rw length-take (omega (arith, ltb-false i l e)) in rw (List·getD-eq-default (take l (drop p s)) 0 h) (lit< tt))
 
 octets-contents : (source : List ℕ) → Octets source → (r : Rec) → Octets (contentsOf (thingOf source r))
 unfolding thingOf
@@ -37,4 +27,4 @@ pub octets-all : (source : List ℕ) → Octets source → (rs : List Rec) → A
 unfolding thingsOf encodeAll
 octets-all source os [] v i = lit< tt
 octets-all source os (r ∷ rs) v i =
-    octets-append (encode (thingOf source r)) (encodeAll (thingsOf source rs)) (encode-octets (thingOf source r) (v .0) (octets-contents source os r)) (octets-all source os rs (v .1)) i
+    octets-join (encode (thingOf source r)) (encodeAll (thingsOf source rs)) (encode-octets (thingOf source r) (v .0) (octets-contents source os r)) (octets-all source os rs (v .1)) i

@@ -8,9 +8,8 @@ use mathlib.Core.Bool.{true}
 use lib.ListN.{length}
 use lib.Dec.{leb, eqb}
 use borrow.Author.Tests.{eqb-true, eq-eqb, leb-true, le-leb}
-use Rattle.octets.specs.Choice.{pick, pick-so, pick-case}
+use Rattle.octets.specs.Choice.{pick, pick-so, pick-case, both-true}
 use Rattle.octets.specs.Reading.{Octets}
-use Rattle.tags.specs.Decide.{both-true}
 use Rattle.items.specs.Records.{Rec, thingsOf}
 use Rattle.items.specs.Reading.{mostItems}
 use Rattle.items.specs.Reading.Out.{good}

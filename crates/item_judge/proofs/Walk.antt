@@ -8,7 +8,7 @@ use mathlib.Core.Bool.{Bool, true, false}
 use lib.ListN.{length, length-append}
 use lib.Dec.{leb, eqb}
 use borrow.Author.Tests.{eq-eqb, ne-eqb, le-leb, lt-leb}
-use Rattle.octets.specs.Choice.{pick, pick-case, both}
+use Rattle.octets.specs.Choice.{pick, pick-case, both, both-false}
 use Rattle.tags.specs.Types.{longest}
 use Rattle.items.specs.Records.{Rec, recordAt, recordsAt, thingOf, thingsOf}
 use Rattle.items.specs.Reading.{mostItems, deepest}
@@ -35,10 +35,6 @@ records-length s p (suc n) = ap suc (records-length s (p + 12) n)
 pub record Judging (area source groups : List ℕ) (size p n : ℕ) : Type 0 where
   pub rest : goodFrom source [] (recordsIn area) ≡ goodFrom source groups (recordsAt area p n)
   pub octets : length (encodeAll (thingsOf source (recordsIn area))) ≡ size + length (encodeAll (thingsOf source (recordsAt area p n)))
-
-pub both-false : (a : Bool) → both a false ≡ false
-both-false true = refl
-both-false false = refl
 
 pub judging-start : (area source : List ℕ) → Judging area source [] 0 0 (length area / 12)
 judging-start area source = record { rest = refl; octets = sym (zero-add _) }

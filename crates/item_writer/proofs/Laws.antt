@@ -7,11 +7,10 @@ use mathlib.Core.Bool.{true, false}
 use lib.ListN.{length, length-append}
 use lib.Dec.{leb, eqb}
 use borrow.Author.Tests.{eqb-true, eqb-false, ne-eqb, leb-true}
-use Rattle.octets.specs.Choice.{pick, pick-so, pick-not}
+use Rattle.octets.specs.Choice.{pick, pick-so, pick-not, both-true}
 use Rattle.octets.specs.Splice.{splice, splice-nil, splice-length, splice-join, splice-then}
 use Rattle.tags.specs.Layout.{Thing, numberOctets, lengthOctets}
 use Rattle.tags.specs.Layout.Thing.{application, boolean, context, opening, closing}
-use Rattle.tags.specs.Decide.{both-true}
 use Rattle.items.specs.Records.{Rec, recordAt, recordsAt, thingOf, thingsOf}
 use Rattle.items.specs.Reading.{mostItems}
 use Rattle.items.specs.Grammar.{encodeAll, recordOf}

@@ -1,4 +1,5 @@
 pub mod Machine
+pub mod Onward
 pub mod Steps
 pub mod Walk
 pub mod RecordOctets

@@ -10,7 +10,7 @@ use lib.Dec.{eqb, ltb}
 use lib.ListN.{length, set, drop, length-set, length-append, length-drop}
 use lib.Seq.{length-take-le, getD-set-same, getD-set-other}
 use borrow.Author.Tests.{eqb-true, eqb-false, ltb-false}
-use Rattle.octets.specs.Choice.{pick, both, non, by-test, pick-case}
+use Rattle.octets.specs.Choice.{pick, both, non, by-test, pick-case, both-left, both-right}
 use Rattle.octets.specs.Splice.{splice}
 use Rattle.messages.specs.Slots.{room, part, Keys, KeyLaws, Segment, Slot, Box, lowest, orElse, isSome, empty, slotAt, openTo, isFree, slotOf}
 use Rattle.messages.specs.Rows.{Done, kept, lost, awaiting, recordAt, settle, settled, rows, rebuild, forget}
@@ -19,7 +19,7 @@ use Rattle.messages.specs.Alone.{Open, Reply, Gone, gone, viewAt, view, 
 use Rattle.messages.specs.Alone.Reply.{refuses, takes, gives}
 use Rattle.messages.specs.History.{Deed}
 use Rattle.messages.specs.History.Deed.{segment, forgetting}
-use Rattle.messages.proofs.Tests.{never, both-left, both-right}
+use Rattle.messages.proofs.Tests.{never}
 use Rattle.messages.proofs.Area.{part-grown}
 use Rattle.messages.proofs.Lowest.{lowest-some, lowest-none, lowest-set, lowest-sole, lowest-no}
 use Rattle.messages.proofs.Step.{Place, Step, stepped, fits, elsewhere, there, Seen, seen, placed, found, restarts, goes-on, good-rebuild, good-forget}

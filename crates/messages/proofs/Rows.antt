@@ -5,12 +5,11 @@ use mathlib.Core.Option.{Option, none, some}
 use Prim.Native.Nat.{ℕ, _+_, _*_}
 use lib.Dec.{eqb, ltb}
 use lib.ListN.{length, set}
-use Rattle.octets.specs.Choice.{both}
+use Rattle.octets.specs.Choice.{both, pick-false, pick-true}
 use Rattle.octets.specs.Splice.{splice}
 use Rattle.messages.specs.Slots.{room, Keys, Segment, Slot, Box, lowest, orElse, empty, slotAt, isFree, slotOf}
 use Rattle.messages.specs.Rows.{done, kept, lost, awaiting, recordAt, settle, settled, fitted, rows, rebuild}
 use Rattle.messages.specs.Rows.Answer.{taken, completed}
-use Rattle.messages.proofs.Tests.{pick-true, pick-false}
 
 module _ {Key : Type 0} (K : Keys Key) (g : Segment Key) (b : Box Key) where
   pub rebuild-open : (i : ℕ) → slotOf K (g .key) (b .slots) ≡ some i → rebuild K g b ≡ rows K g (some i) (slotAt K (b .slots) i) b

@@ -10,13 +10,13 @@ use lib.Dec.{eqb, leb}
 use lib.ListN.{length, drop, replicate, drop-of-length-le, length-set, length-replicate}
 use lib.Seq.{drop-cons}
 use borrow.Author.Tests.{eqb-true, eq-eqb, le-leb, lt-leb, leb-true}
-use Rattle.octets.specs.Choice.{both, non, by-test, pick-case}
+use Rattle.octets.specs.Choice.{both, non, by-test, pick-case, both-left, both-right, non-true, true-both}
 use Rattle.messages.specs.Slots.{room, Keys, KeyLaws, Segment, Slot, Box, boxed, lowest, isSome, empty, slotAt, openTo}
 use Rattle.messages.specs.Rows.{Done, rebuild, forgotten, forget}
 use Rattle.messages.specs.Sound.{Good, twice, sound, passes, sizedFor}
 use Rattle.messages.specs.History.{Deed, Past, past, after, runs, fromStart}
 use Rattle.messages.specs.History.Deed.{segment, forgetting}
-use Rattle.messages.proofs.Tests.{never, both-left, both-right, both-true, non-true, some-true, none-false}
+use Rattle.messages.proofs.Tests.{never, some-true, none-false}
 use Rattle.messages.proofs.Lowest.{lowest-some, lowest-none}
 use Rattle.messages.proofs.Step.{Step, stepped, good-rebuild, good-forget}
 use Rattle.messages.proofs.Step.Step.{stays, frees, took}
@@ -77,8 +77,8 @@ module _ {Key : Type 0} (K : Keys Key) (L : KeyLaws K) where
   tests : (s : List (Slot Key)) → Small s → Apart s → sound K s ≡ true
   tests [] h d = refl
   tests (t ∷ ts) h d =
-      both-true _ _ (le-leb (t .held) room (h zero (omega arith)))
-      (both-true _ _ no (tests ts (λ i l. h (suc i) (omega arith)) (λ i j li lj u v k. let e : suc i ≡ suc j = d (suc i) (suc j) (omega arith) (omega arith) u v k in omega arith)))
+      true-both _ _ (le-leb (t .held) room (h zero (omega arith)))
+      (true-both _ _ no (tests ts (λ i l. h (suc i) (omega arith)) (λ i j li lj u v k. let e : suc i ≡ suc j = d (suc i) (suc j) (omega arith) (omega arith) u v k in omega arith)))
     where
       no : non (twice K t ts) ≡ true
       no =
@@ -100,7 +100,7 @@ module _ {Key : Type 0} (K : Keys Key) (L : KeyLaws K) where
 
   pub of-good : (n : ℕ) (b : Box Key) → length (b .slots) ≡ n → Good K b → (passes K n (b .slots) ≡ true) × (sizedFor n (b .area) ≡ true)
   of-good n b len G = (
-    both-true _ _ (eq-eqb (length (b .slots)) n len) (tests (b .slots) (G .holds) (G .apart)),
+    true-both _ _ (eq-eqb (length (b .slots)) n len) (tests (b .slots) (G .holds) (G .apart)),
     eq-eqb (length (b .area)) (room * n) (G .sized ∙ ap (λ (k : ℕ). room * k) len),
   )
 

@@ -10,12 +10,12 @@ use lib.Dec.{eqb, ltb}
 use lib.ListN.{length, set, length-set, List·getD-eq-default}
 use lib.Seq.{getD-set-same, getD-set-other}
 use borrow.Author.Tests.{eqb-true, eqb-false, ltb-true, ltb-false}
-use Rattle.octets.specs.Choice.{both, by-test, pick-cases}
+use Rattle.octets.specs.Choice.{both, by-test, pick-cases, both-left, both-right}
 use Rattle.octets.specs.Splice.{splice, splice-length}
 use Rattle.messages.specs.Slots.{room, part, Keys, KeyLaws, Segment, Slot, Box, lowest, orElse, empty, slotAt, openTo, isFree, slotOf}
 use Rattle.messages.specs.Rows.{Done, kept, lost, recordAt, settle, settled, fitted, rows, rebuild, forget}
 use Rattle.messages.specs.Sound.{Good}
-use Rattle.messages.proofs.Tests.{never, both-left, both-right}
+use Rattle.messages.proofs.Tests.{never}
 use Rattle.messages.proofs.Area.{part-before, part-behind}
 use Rattle.messages.proofs.Lowest.{lowest-some, lowest-none}
 

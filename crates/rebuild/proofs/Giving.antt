@@ -7,10 +7,10 @@ use Prim.Native.Nat.{ℕ, _+_, _*_}
 use lib.Dec.{eqb}
 use lib.ListN.{length, set}
 use borrow.Author.Tests.{eq-eqb, ne-eqb}
+use Rattle.octets.specs.Choice.{pick-false, pick-true}
 use Rattle.octets.specs.Splice.{splice}
 use Rattle.messages.specs.Slots as Messages
 use Rattle.messages.specs.Rows as Rules
-use Rattle.messages.proofs.Tests.{pick-true, pick-false}
 use Rattle.messages.proofs.Rows.{settle-more, settle-last}
 use Rattle.rebuild.specs.View.{keys, freeSlot, seen, view, segmentOf}
 use Rattle.rebuild.specs.Calls.{Gives, taking, Forgets}

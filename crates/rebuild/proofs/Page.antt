@@ -7,6 +7,7 @@ use native.Mathlib.Omega.{arith}
 use lib.Dec.{eqb}
 use lib.ListN.{length}
 use borrow.Author.Tests.{eqb-true, eq-eqb}
+use Rattle.octets.specs.Choice.{both-left, both-right}
 use Rattle.messages.specs.Slots.{room, part, KeyLaws, Segment, Box, boxed}
 use Rattle.messages.specs.Rows.{Answer, Done, rebuild}
 use Rattle.messages.specs.Rows.Answer.{refused, taken, completed}
@@ -14,7 +15,6 @@ use Rattle.messages.specs.Sound.{Good, passes}
 use Rattle.messages.specs.History.{Deed, begun, touches, Rebuilt, after, fromStart}
 use Rattle.messages.specs.History.Deed.{segment}
 use Rattle.messages.specs.Alone.{view as seenBy, own, replies, noFifty}
-use Rattle.messages.proofs.Tests.{both-left, both-right}
 use Rattle.messages.proofs.Sound.{good-of, passes-rebuild, passes-forget}
 use Rattle.messages.proofs.History.{completes}
 use Rattle.messages.proofs.Laws.{others, within-taken, within-completed}

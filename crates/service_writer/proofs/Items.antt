@@ -1,5 +1,5 @@
 -- The octets of items with numbers, and octets laid one after the other.
-use Prim.Native.Nat.{ℕ, zero, suc, _+_, _-_, _*_, _/_, _%_, _≤_, _<_}
+use Prim.Native.Nat.{ℕ, zero, suc, _+_, _-_, _*_, _≤_, _<_}
 use native.Mathlib.Omega.{arith}
 use mathlib.Core.Path.{_≡_, refl, sym, ap, subst, _∙_}
 use mathlib.Core.List.{List, [], _∷_, _++_, append-nil}
@@ -8,10 +8,10 @@ use lib.ListN.{length, take, drop, length-append, drop-of-length-le}
 use lib.Seq.{take-length}
 use lib.Dec.{ltb}
 use borrow.Author.Tests.{lt-ltb, ltb-false}
-use Rattle.octets.specs.Choice.{pick, pick-not, by-test}
+use Rattle.octets.specs.Choice.{pick-not, by-test}
 use Rattle.octets.specs.Splice.{splice, splice-nil, splice-front, splice-then, splice-length, splice-inside}
-use Rattle.octets.specs.Numbers.{digits, widthOf, length-digits, width-range, digits-four}
-use Rattle.tags.specs.Layout.{Thing, encode, highBits, numberOctets, lowBits, lengthOctets}
+use Rattle.octets.specs.Numbers.{digits, widthOf, length-digits, width-range}
+use Rattle.tags.specs.Layout.{encode, highBits, numberOctets, lowBits, lengthOctets}
 use Rattle.tags.specs.Layout.Thing.{application, context}
 use Rattle.items.specs.Grammar.{encodeAll}
 use Rattle.services.specs.Reading.{lastInstance}

@@ -1,13 +1,11 @@
 -- What the writers promise, for each way in which they end.
-use Prim.Native.Nat.{ℕ, suc, _+_, _≤_, _<_}
+use Prim.Native.Nat.{ℕ, _≤_, _<_}
 use native.Mathlib.Omega.{arith}
 use mathlib.Core.Path.{_≡_, refl, sym, ap, subst, _∙_}
-use mathlib.Core.List.{List, [], _∷_, _++_, append-nil}
+use mathlib.Core.List.{List, [], append-nil}
 use mathlib.Core.Bool.{Bool, true, false}
-use lib.ListN.{length, take}
-use lib.Dec.{ltb}
+use lib.ListN.{length}
 use borrow.Author.Tests.{lt-ltb}
-use Rattle.octets.specs.Choice.{pick}
 use Rattle.octets.specs.Splice.{splice}
 use Rattle.octets.specs.Laid.{Laid, laid-fault, laid-short, laid-over, laid-as}
 use Rattle.octets.specs.declared.Written.{Written}

@@ -1,7 +1,6 @@
 -- Every refusal of the reading has a number.
-use Prim.Native.Nat.{ℕ, zero, suc, _+_, _-_, _/_, _%_, _≤_, _<_}
+use Prim.Native.Nat.{ℕ, zero, suc, _+_, _-_, _/_, _%_, _<_}
 use native.Mathlib.Omega.{arith}
-use mathlib.Core.Path.{_≡_, refl, sym, subst}
 use mathlib.Core.List.{List, [], _∷_}
 use mathlib.Core.Bool.{Bool, true, false}
 use lib.ListN.{length}
@@ -17,7 +16,7 @@ use Rattle.tags.specs.declared.Tag.the-variants.{Item, Opening, Closing}
 use Rattle.items.specs.Records.{Rec}
 use Rattle.items.specs.Reading.{Out, more, ending, closes, step, walk, itemsOf, mostItems, deepest}
 use Rattle.items.specs.Reading.Out.{good, bad}
-use Rattle.services.specs.Parts.{Then, is, present, wanted, numberRule, numberOf, contextNumber, optionalNumber, group, afterGroup, last}
+use Rattle.services.specs.Parts.{Then, is, present, wanted, optionalNumber, group, afterGroup, last}
 use Rattle.services.specs.Reading.{targetParts, layoutFor, afterTags, readService}
 use Rattle.services.specs.Reading as reading
 use Rattle.services.specs.declared.Answer.{Answer}

@@ -1,18 +1,15 @@
 -- "parameters that were read write back to the same octets", and what was written reads back.
-use Prim.Native.Nat.{ℕ, _+_, _≤_, _<_}
-use native.Mathlib.Omega.{arith}
-use mathlib.Core.Path.{_≡_, refl, sym, ap, subst, _∙_}
+use Prim.Native.Nat.{ℕ}
+use mathlib.Core.Path.{_≡_, refl, sym, subst, _∙_}
 use mathlib.Core.Logic.{_⊎_, inl, inr}
-use mathlib.Core.List.{List, [], _∷_, _++_, append-nil, append-assoc}
-use mathlib.Core.Bool.{Bool, true, false}
-use lib.Dec.{ltb}
+use mathlib.Core.List.{List, append-nil}
+use mathlib.Core.Bool.{false}
 use borrow.Author.Tests.{le-ltb}
-use Rattle.octets.specs.Choice.{pick}
 use Rattle.octets.specs.Reading.{Octets}
 use Rattle.tags.specs.Layout.{Thing}
 use Rattle.items.specs.Grammar.{encodeAll}
 use Rattle.services.specs.Reading.{lastInstance, layoutFor, readService}
-use Rattle.services.specs.Layout.{Pointing, pointed, valued, optional, thingsOfMessage, encode, Ranges}
+use Rattle.services.specs.Layout.{Pointing, valued, thingsOfMessage, encode, Ranges}
 use Rattle.services.specs.Shows.{For, pointedOf, messageOf, Shows, ValidFor}
 use Rattle.services.specs.declared.Answer.the-variants.{Good}
 use Rattle.services.specs.declared.Service.{Service}
@@ -20,8 +17,8 @@ use Rattle.services.specs.declared.Service.the-variants.{ReadProperty, ReadProp
 use Rattle.services.specs.declared.Target.{Target}
 use Rattle.services.proofs.Things.{encode-append}
 use Rattle.services.proofs.Layouts.{ValueStands}
-use Rattle.services.proofs.Exact.{Accepted, accepted, exactly}
-use Rattle.service_writer.specs.Writing.{kindOf, choiceOf, grouped, ranked, octetsOf, wideTarget, tooWide, refusalOf, readFault, faultOf, valueIn}
+use Rattle.services.proofs.Exact.{accepted, exactly}
+use Rattle.service_writer.specs.Writing.{kindOf, choiceOf, grouped, ranked, octetsOf, wideTarget, tooWide, refusalOf, faultOf, valueIn}
 
 -- a value of items is laid as the message's
 grouped-items : (ts : List Thing) → grouped (encodeAll ts) ≡ encodeAll (valued ts)

@@ -1,30 +1,29 @@
 -- The octets that are read as a service are exactly those that its messages are written as.
-use Prim.Native.Nat.{ℕ, _+_, _≤_}
+use Prim.Native.Nat.{ℕ, _+_}
 use native.Mathlib.Omega.{arith}
 use mathlib.Core.Path.{_≡_, refl, sym, ap, subst, _∙_}
-use mathlib.Core.List.{List, [], _∷_, _++_, append-nil}
+use mathlib.Core.List.{List, [], _++_, append-nil}
 use lib.ListN.{length, length-append}
 use Rattle.octets.specs.Reading.{Octets}
 use Rattle.octets.specs.Has.{Has, all-has}
 use Rattle.octets.specs.Exact.{Exactly}
 use Rattle.tags.specs.Types.{longest}
 use Rattle.tags.specs.Layout.{Thing}
-use Rattle.tags.specs.Layout.Thing.{closing}
 use Rattle.items.specs.Records.{Rec, thingsOf}
 use Rattle.items.specs.Reading.{Out, itemsOf, mostItems}
 use Rattle.items.specs.Reading.Out.{good, bad}
 use Rattle.items.specs.Grammar.{encodeAll, Balanced, AllValid, Grammar, recordsFrom, Reads}
-use Rattle.items.proofs.Exact.{Written, written, reads, exact}
+use Rattle.items.proofs.Exact.{written, reads, exact}
 use Rattle.services.specs.Reading.{layoutFor, afterTags, readService}
-use Rattle.services.specs.Layout.{Message, Valid, pointed, valued, optional, thingsOfMessage, encode, Ranges, WholeValue}
+use Rattle.services.specs.Layout.{Message, pointed, valued, optional, thingsOfMessage, encode, WholeValue}
 use Rattle.services.specs.Layout.Message.{readProperty, readPropertyAck, writeProperty, whoIs, iAm, errorOf}
-use Rattle.services.specs.Shows.{For, messageOf, valueOctets, ValueReads, Shows, ValidFor}
+use Rattle.services.specs.Shows.{For, messageOf, ValueReads, Shows, ValidFor}
 use Rattle.services.specs.declared.Answer.{Answer}
-use Rattle.services.specs.declared.Answer.the-variants.{Good, Refused}
+use Rattle.services.specs.declared.Answer.the-variants.{Good}
 use Rattle.services.specs.declared.Service.{Service}
 use Rattle.services.specs.declared.Service.the-variants.{ReadProperty, ReadPropertyAck, WriteProperty, WhoIs, IAm, Error}
 use Rattle.services.proofs.Things.{never, Here, encode-append, valid-left, valid-right, valued-valid, valued-length}
-use Rattle.services.proofs.Layouts.{ValueStands, Shown, layout-shown}
+use Rattle.services.proofs.Layouts.{ValueStands, layout-shown}
 use Rattle.services.proofs.Written.{valueOf, layout-reads}
 
 -- a service is read from good items only

@@ -1,8 +1,8 @@
 -- A group among items: the items in it are whole by themselves, and the reading goes past their records.
-use Prim.Native.Nat.{ℕ, zero, suc, _+_, _-_, _≤_, _<_}
+use Prim.Native.Nat.{ℕ, zero, suc, _+_, _-_, _≤_}
 use native.Mathlib.Omega.{arith}
 use native.Mathlib.Numerals.{add-one}
-use mathlib.Core.Path.{_≡_, refl, sym, ap, _∙_}
+use mathlib.Core.Path.{_≡_, refl, ap}
 use mathlib.Core.List.{List, [], _∷_, _++_}
 use mathlib.Core.Bool.{false}
 use lib.ListN.{length, length-append}
@@ -12,7 +12,7 @@ use Rattle.octets.specs.Choice.{both}
 use Rattle.tags.specs.Layout.{Thing, encode, tagLength}
 use Rattle.tags.specs.Layout.Thing.{application, boolean, context, opening, closing}
 use Rattle.items.specs.Records.{Rec}
-use Rattle.items.specs.Grammar.{encodeAll, Balanced, AllValid, recordOf, depthAfter, recordsFrom}
+use Rattle.items.specs.Grammar.{encodeAll, Balanced, recordOf, depthAfter, recordsFrom}
 use Rattle.services.specs.Parts.{afterGroup}
 use Rattle.services.specs.declared.Answer.{Answer}
 

@@ -1,32 +1,31 @@
 -- What stands where a layout was read.
-use Prim.Native.Nat.{ℕ, _+_, _*_, _/_, _%_, _^_, _≤_, _<_}
+use Prim.Native.Nat.{ℕ, _+_, _*_, _%_, _≤_}
 use native.Mathlib.Omega.{arith}
 use mathlib.Core.Path.{_≡_, refl, sym, ap, subst, _∙_}
 use mathlib.Core.Logic.{_⊎_, inl, inr}
-use mathlib.Core.List.{List, [], _∷_, _++_, append-nil, append-assoc}
+use mathlib.Core.List.{List, [], _∷_, _++_, append-nil}
 use mathlib.Core.Bool.{Bool, true, false}
-use lib.ListN.{length}
 use lib.Dec.{eqb}
 use borrow.Author.Tests.{eqb-true}
-use Rattle.octets.specs.Choice.{pick, pick-cases, both, by-test}
+use Rattle.octets.specs.Choice.{pick-cases, both, by-test, both-true}
 use Rattle.octets.specs.Reading.{Octets}
-use Rattle.octets.specs.Numbers.{valueAt, digits, value-below}
+use Rattle.octets.specs.Numbers.{digits}
 use Rattle.tags.specs.Layout.{Thing}
 use Rattle.tags.specs.Layout.Thing.{application, context}
-use Rattle.tags.specs.Decide.{both-true}
-use Rattle.items.specs.Records.{Rec}
 use Rattle.items.specs.Grammar.{encodeAll, recordsFrom}
 use Rattle.services.specs.Parts.{present, anyNumber, contextNumber, group, last}
-use Rattle.services.specs.Reading.{lastInstance, deviceRule, layoutFor}
+use Rattle.services.specs.Reading.{lastInstance, layoutFor}
 use Rattle.services.specs.Reading as reading
-use Rattle.services.specs.Layout.{Message, shortest, optional, pointed, valued, thingsOfMessage, Pointing, Absent, Ranges, WholeValue}
+use Rattle.services.specs.Places.{priorityPart, capablePart}
+use Rattle.services.specs.Layout.{shortest, optional, pointed, valued, thingsOfMessage, Absent, Ranges, WholeValue}
 use Rattle.services.specs.Shows.{For, messageOf, valueOctets}
 use Rattle.services.specs.declared.Answer.{Answer}
-use Rattle.services.specs.declared.Answer.the-variants.{Good, Refused}
+use Rattle.services.specs.declared.Answer.the-variants.{Good}
 use Rattle.services.specs.declared.Service.{Service}
 use Rattle.services.specs.declared.Service.the-variants.{ReadProperty, ReadPropertyAck, WriteProperty, WhoIs, IAm, Error}
-use Rattle.services.proofs.Spelling.{stands-digits}
-use Rattle.services.proofs.Things.{never, not-so, Here, contexts, applications, part-read, number-read, option-read, group-read, last-read}
+use Rattle.services.specs.declared.Target.{Target}
+use Rattle.services.specs.declared.Span.{Span}
+use Rattle.services.proofs.Things.{never, not-so, Here, contexts, applications, number-read, option-read, group-read, last-read, last-number}
 use Rattle.services.proofs.Pointed.{targetOf, target-read, device-read}
 
 -- the octets of a service's value are those of these items
@@ -46,6 +45,43 @@ pub record Shown (kind choice : ℕ) (o : List ℕ) (ts : List Thing) (v : Servi
   pub ranges : Ranges (messageOf v value)
   pub whole : WholeValue (messageOf v value)
   pub octets : ValueStands o v value
+
+-- the last parts of an I-Am
+record Capable (word longest : ℕ) (ts : List Thing) (v : Service) : Type 0 where
+  segmentation : ℕ
+  vendor : ℕ
+  things : ts ≡ application 9 (shortest segmentation) ∷ application 2 (shortest vendor) ∷ []
+  few : segmentation ≤ 3
+  small : vendor ≤ 65535
+  service : IAm (record { instance = word % 4194304; longest = longest; segmentation = segmentation; vendor = vendor }) ≡ v
+
+capable-read : (o : List ℕ) → Octets o → (word longest at : ℕ) (ts : List Thing) (v : Service) → Here o at ts → capablePart o word longest (recordsFrom at 0 ts) ≡ Good v → Capable word longest ts v
+capable-read o os word longest at ts v h e =
+    let a = number-read o 0 9 (application 9) (applications 9 (λ e. omega arith)) os 0 3 _ at ts v h e in
+    let b = last-number o os 0 2 (application 2) (applications 2 (λ e. omega arith)) 0 65535 (λ vendor. IAm (record { instance = word % 4194304; longest = longest; segmentation = a .value; vendor = vendor })) _ (a .rest) v (a .left) (a .goes) in
+    record { segmentation = a .value; vendor = b .value; things = a .things ∙ ap (λ (us : List Thing). application 9 (shortest (a .value)) ∷ us) (b .things); few = a .most; small = b .most; service = b .service }
+
+-- the last part of a WriteProperty
+record Ranked (t : Target) (value : Span) (ts : List Thing) (v : Service) : Type 0 where
+  ranked : Bool
+  priority : ℕ
+  things : ts ≡ optional ranked 4 priority
+  range : ranked ≡ true → (1 ≤ priority) × (priority ≤ 16)
+  absent : Absent ranked priority
+  service : WriteProperty (record { target = t; value = value; ranked = ranked; priority = priority }) ≡ v
+
+ranked-read : (o : List ℕ) → Octets o → (t : Target) (value : Span) (at : ℕ) (ts : List Thing) (v : Service) → Here o at ts → priorityPart o t value (recordsFrom at 0 ts) ≡ Good v → Ranked t value ts v
+ranked-read o os t value at ts v h e =
+    let p = option-read o 4 1 16 _ os at ts v h e in
+    let l = last-read _ (p .rest) _ v (p .goes) in
+    record {
+      ranked = p .here;
+      priority = p .value;
+      things = p .things ∙ ap (λ (us : List Thing). optional (p .here) 4 (p .value) ++ us) (l .0) ∙ append-nil (optional (p .here) 4 (p .value));
+      range = p .range;
+      absent = p .absent;
+      service = l .1;
+    }
 
 module _ (o : List ℕ) (os : Octets o) (kind choice : ℕ) (ts : List Thing) (v : Service) (h : Here o 0 ts) where
   property-shown : kind ≡ 0 → choice ≡ 12 → reading.readProperty o (recordsFrom 0 0 ts) ≡ Good v → Shown kind choice o ts v
@@ -82,14 +118,11 @@ module _ (o : List ℕ) (os : Octets o) (kind choice : ℕ) (ts : List Thing) (v
   write-shown k c e =
       let t = target-read o os _ 0 ts v h e in
       let g = group-read o _ _ (t .rest) v (t .left) (t .goes) in
-      let p = option-read o 4 1 16 _ os _ (g .rest) v (g .left) (g .goes) in
-      let l = last-read _ (p .rest) _ v (p .goes) in
-      subst (Shown kind choice o ts) (l .1) (record {
+      let p = ranked-read o os (targetOf (t .point)) _ _ (g .rest) v (g .left) (g .goes) in
+      subst (Shown kind choice o ts) (p .service) (record {
         value = g .inner;
         layout = (k, c);
-        things =
-            t .things ∙ ap (λ (us : List Thing). pointed (t .point) ++ us)
-            (g .things ∙ ap (λ (us : List Thing). valued (g .inner) ++ us) (p .things ∙ ap (λ (us : List Thing). optional (p .here) 4 (p .value) ++ us) (l .0) ∙ append-nil (optional (p .here) 4 (p .value))));
+        things = t .things ∙ ap (λ (us : List Thing). pointed (t .point) ++ us) (g .things ∙ ap (λ (us : List Thing). valued (g .inner) ++ us) (p .things));
         ranges = (t .pointing, p .range, p .absent);
         whole = g .whole;
         octets = g .octets;
@@ -99,12 +132,11 @@ module _ (o : List ℕ) (os : Octets o) (kind choice : ℕ) (ts : List Thing) (v
   unfolding messageOf thingsOfMessage
   limits-shown k c e =
       let a = number-read o 1 0 (context 0) (contexts 0) os 0 lastInstance _ 0 ts v h e in
-      let b = number-read o 1 1 (context 1) (contexts 1) os (a .value) lastInstance _ _ (a .rest) v (a .left) (a .goes) in
-      let l = last-read _ (b .rest) _ v (b .goes) in
-      subst (Shown kind choice o ts) (l .1) (record {
+      let b = last-number o os 1 1 (context 1) (contexts 1) (a .value) lastInstance (λ high. WhoIs (record { limited = true; low = a .value; high = high })) _ (a .rest) v (a .left) (a .goes) in
+      subst (Shown kind choice o ts) (b .service) (record {
         value = [];
         layout = (k, c);
-        things = a .things ∙ ap (λ (us : List Thing). context 0 (shortest (a .value)) ∷ us) (b .things ∙ ap (λ (us : List Thing). context 1 (shortest (b .value)) ∷ us) (l .0));
+        things = a .things ∙ ap (λ (us : List Thing). context 0 (shortest (a .value)) ∷ us) (b .things);
         ranges = (λ _. (b .least, b .most), λ f. not-so (sym f), λ f. not-so (sym f));
         whole = tt;
         octets = refl;
@@ -121,19 +153,13 @@ module _ (o : List ℕ) (os : Octets o) (kind choice : ℕ) (ts : List Thing) (v
   unfolding reading.iAm messageOf thingsOfMessage
   am-shown k c e =
       let d = device-read o os _ 0 ts v h e in
-      let a = number-read o 0 2 (application 2) (applications 2 (λ e. omega arith)) os 0 anyNumber _ _ (d .rest) v (d .left) (d .goes) in
-      let b = number-read o 0 9 (application 9) (applications 9 (λ e. omega arith)) os 0 3 _ _ (a .rest) v (a .left) (a .goes) in
-      let g = number-read o 0 2 (application 2) (applications 2 (λ e. omega arith)) os 0 65535 _ _ (b .rest) v (b .left) (b .goes) in
-      let l = last-read _ (g .rest) _ v (g .goes) in
-      subst (Shown kind choice o ts) (l .1) (record {
+      let a = number-read o 0 2 (application 2) (applications 2 (λ e. omega arith)) os 0 anyNumber (λ longest. capablePart o (d .word) longest) _ (d .rest) v (d .left) (d .goes) in
+      let g = capable-read o os (d .word) (a .value) _ (a .rest) v (a .left) (a .goes) in
+      subst (Shown kind choice o ts) (g .service) (record {
         value = [];
         layout = (k, c);
-        things =
-            d .things ∙ ap (λ (us : List Thing). application 12 (digits 4 (8 * 4194304 + d .word % 4194304)) ∷ us)
-            (a .things ∙ ap (λ (us : List Thing). application 2 (shortest (a .value)) ∷ us)
-            (b .things ∙ ap (λ (us : List Thing). application 9 (shortest (b .value)) ∷ us)
-            (g .things ∙ ap (λ (us : List Thing). application 2 (shortest (g .value)) ∷ us) (l .0))));
-        ranges = (omega arith, a .most, b .most, g .most);
+        things = d .things ∙ ap (λ (us : List Thing). application 12 (digits 4 (8 * 4194304 + d .word % 4194304)) ∷ us) (a .things ∙ ap (λ (us : List Thing). application 2 (shortest (a .value)) ∷ us) (g .things));
+        ranges = (omega arith, a .most, g .few, g .small);
         whole = tt;
         octets = refl;
       })
@@ -143,12 +169,11 @@ module _ (o : List ℕ) (os : Octets o) (kind choice : ℕ) (ts : List Thing) (v
   error-shown k c e =
       let nine = applications 9 (λ e. omega arith) in
       let a = number-read o 0 9 (application 9) nine os 0 anyNumber _ 0 ts v h e in
-      let b = number-read o 0 9 (application 9) nine os 0 anyNumber _ _ (a .rest) v (a .left) (a .goes) in
-      let l = last-read _ (b .rest) _ v (b .goes) in
-      subst (Shown kind choice o ts) (l .1) (record {
+      let b = last-number o os 0 9 (application 9) nine 0 anyNumber (λ code. Error (record { class = a .value; code = code })) _ (a .rest) v (a .left) (a .goes) in
+      subst (Shown kind choice o ts) (b .service) (record {
         value = [];
         layout = (k, c);
-        things = a .things ∙ ap (λ (us : List Thing). application 9 (shortest (a .value)) ∷ us) (b .things ∙ ap (λ (us : List Thing). application 9 (shortest (b .value)) ∷ us) (l .0));
+        things = a .things ∙ ap (λ (us : List Thing). application 9 (shortest (a .value)) ∷ us) (b .things);
         ranges = (a .most, b .most);
         whole = tt;
         octets = refl;

@@ -6,3 +6,4 @@ pub mod Pointed
 pub mod Layouts
 pub mod Written
 pub mod Exact
+pub mod Worked

@@ -1,32 +1,32 @@
 -- What a tag at a place says of the records that are left from there on.
-use Prim.Native.Nat.{ℕ, zero, suc, _+_, _-_, _/_, _≤_, _<_}
+use Prim.Native.Nat.{ℕ, _+_, _-_, _≤_, _<_}
 use native.Mathlib.Omega.{arith}
-use mathlib.Core.Path.{_≡_, refl, sym, ap, subst, _∙_}
+use mathlib.Core.Path.{_≡_, refl, sym, subst, _∙_}
 use mathlib.Core.List.{List, [], _∷_, _++_}
 use mathlib.Core.Bool.{Bool, true, false}
 use lib.ListN.{length}
 use lib.Dec.{ltb, leb, eqb}
 use borrow.Author.Tests.{lt-ltb, ltb-false, eqb-true, eqb-false, eq-eqb, ne-eqb, leb-true, leb-false}
-use Rattle.octets.specs.Choice.{pick, both, pick-not, pick-so, pick-which, by-test}
+use Rattle.octets.specs.Choice.{pick, both, pick-not, pick-so, by-test, both-true}
 use Rattle.octets.specs.Reading.{oct, Octets}
 use Rattle.octets.specs.Numbers.{valueAt, longForm}
 use Rattle.tags.specs.Types.{least, most}
 use Rattle.tags.specs.Head.{headAt}
-use Rattle.tags.specs.Layout.{Thing, Valid, Stands, Good, tagOf}
+use Rattle.tags.specs.Layout.{Thing, Valid, Good, tagOf}
 use Rattle.tags.specs.Layout.Thing.{application, boolean, context, opening, closing}
-use Rattle.tags.specs.Decide.{both-true}
 use Rattle.tags.specs.declared.Tag.{Tag}
 use Rattle.tags.specs.declared.Tag.the-variants.{Item, Opening, Closing}
 use Rattle.tags.proofs.Bounds.{TagIn, head-in}
 use Rattle.tags.proofs.Exact.{head-sound}
 use Rattle.items.specs.Records.{Rec, rec}
-use Rattle.items.specs.Reading.{Out, itemsOf, counted, more, closes, step, itemAt, endOf, within, mostItems, deepest}
+use Rattle.items.specs.Reading.{Out, itemsOf, counted, more, step, itemAt, endOf, within, mostItems}
 use Rattle.items.specs.Reading.Out.{good, bad}
-use Rattle.items.specs.Left.{Left, Closes, Opens, AllDeep}
+use Rattle.items.specs.Left.{Left, Opens, AllDeep}
 use Rattle.items.specs.declared.One.{One}
 use Rattle.items.specs.declared.Tally.{Tally}
 use Rattle.items.proofs.Left.{left-all, left-end, left-refused, left-closing, left-item, left-group}
-use Rattle.items.proofs.Machine.{never, more-good}
+use Rattle.items.proofs.Machine.{more-good}
+use Rattle.items.proofs.Onward.{within-past}
 use Rattle.items.proofs.Steps.{tag-in}
 use Rattle.services.specs.Parts.{Then, is, present, wanted, numberOf, numberRule, anyNumber, contextNumber, contextObject, optionalNumber, afterGroup, group, last}
 use Rattle.services.specs.Reading.{target, targetParts, layoutFor, afterTags, readService}
@@ -42,7 +42,6 @@ use Rattle.services.specs.declared.parts.Optional.{Optional}
 use Rattle.services.specs.declared.parts.OptionalPart.{OptionalPart}
 use Rattle.services.specs.declared.parts.TargetPart.{TargetPart}
 use Rattle.services.specs.declared.parts.ValuePart.{ValuePart}
-use Rattle.services.specs.declared.parts.Found.{Found}
 use Rattle.services.specs.declared.parts.Found.the-variants.{At, Missing}
 
 -- the first of the records that are left, or that there is none, is of another kind or number
@@ -221,40 +220,6 @@ past-deep next (r ∷ inner) h n to rest =
     (λ k. rw (k, ne-eqb (r .depth) 0 (omega (arith, h .0))) (past-deep next inner (h .1) n to rest))
     (λ k. rw k (past-deep next inner (h .1) n to rest))
 
--- reading to the end of a group goes on
-abbrev Past : ℕ → List ℕ → ℕ → Type 0
-Past at [] end = at ≤ end
-Past at (n ∷ outer) end = at < end
-
-not-before : (at : ℕ) (groups : List ℕ) (end : ℕ) → Past at groups end → at ≤ end
-not-before at [] end h = h
-not-before at (n ∷ outer) end h = omega arith
-
-module _ (s : List ℕ) (rest : ℕ → List ℕ → Out) (on : (at : ℕ) (groups : List ℕ) (rs : List Rec) (end : ℕ) → rest at groups ≡ good rs end → at ≤ end) where
-  step-past : (at : ℕ) (t : Tag) → TagIn s at t → (groups : List ℕ) (rs : List Rec) (end : ℕ) → step rest t groups ≡ good rs end → at < end
-  unfolding step closes
-  step-past at (Item k n v p l) b groups rs end e =
-      let g = more-good (rec k n (length groups) v p l) (rest (p + l) groups) rs end e in omega (arith, b .on, on (p + l) groups (g .0) end (g .1))
-  step-past at (Opening n p) b groups rs end e =
-      let w = pick-not (leb deepest (length groups)) (bad 37) _ (good rs end) (never 37 rs end) e in
-      let g = more-good (rec 2 n (length groups) 0 p 0) (rest p (n ∷ groups)) rs end (w .1) in
-      omega (arith, b .on, on p (n ∷ groups) (g .0) end (g .1))
-  step-past at (Closing n p) b [] rs end e = never 35 rs end e
-  step-past at (Closing n p) b (m ∷ outer) rs end e =
-      let w = pick-so (eqb n m) _ (bad 35) (good rs end) (never 35 rs end) e in
-      let g = more-good (rec 3 n (length outer) 0 p 0) (rest p outer) rs end (w .1) in
-      omega (arith, b .on, on p outer (g .0) end (g .1))
-  step-past at (Tag.Refused x) b groups rs end e = never x rs end e
-
-within-past : (k : ℕ) (s : List ℕ) (at : ℕ) (groups : List ℕ) (rs : List Rec) (end : ℕ) → within k s at groups ≡ good rs end → Past at groups end
-unfolding within
-within-past zero s at [] rs end e = let z : at ≡ end = cc in omega arith
-within-past zero s at (n ∷ outer) rs end e = never 38 rs end (pick-not (leb (length s) at) (bad 36) (bad 38) (good rs end) (never 36 rs end) e .1)
-within-past (suc k) s at [] rs end e = let z : at ≡ end = cc in omega arith
-within-past (suc k) s at (n ∷ outer) rs end e =
-    let w = pick-not (leb (length s) at) (bad 36) _ (good rs end) (never 36 rs end) e in
-    step-past s (within k s) (λ at groups rs end e. not-before at groups end (within-past k s at groups rs end e)) at (headAt s at) (head-in s at) (n ∷ outer) rs end (w .1)
-
 -- the place after a group
 ended : (o : Out) (to : ℕ) → One.Next to ≡ endOf o → (rs : List Rec) × (o ≡ good rs to)
 unfolding endOf
@@ -267,7 +232,8 @@ group-on s at n p to e f =
     let g = ended (itemAt s at) to f in
     let h : itemAt s at ≡ more (rec 2 n 0 0 p 0 ∷ []) (within (mostItems - 1) s p (n ∷ [])) = rw e in
     let m = more-good (rec 2 n 0 0 p 0) (within (mostItems - 1) s p (n ∷ [])) (g .0) to (sym h ∙ g .1) in
-    within-past (mostItems - 1) s p (n ∷ []) (m .0) to (m .1)
+    let b : TagIn s at (Opening n p) = subst (TagIn s at) e (head-in s at) in
+    within-past s (mostItems - 1) p (n ∷ []) (m .0) to (b .within) (m .1) .0
 
 end-is : (s : List ℕ) (at n p : ℕ) (rs : List Rec) → (o : Opens s at n p rs) → endOf (itemAt s at) ≡ One.Next (o .closes .to)
 unfolding endOf

@@ -1,21 +1,21 @@
 -- A number that keeps its rule is spelled in its shortest form, and a number in its shortest form keeps the rule.
-use Prim.Native.Nat.{ℕ, zero, suc, _+_, _*_, _/_, _%_, _^_, _≤_, _<_}
+use Prim.Native.Nat.{ℕ, _+_, _^_, _≤_, _<_}
 use native.Mathlib.Omega.{arith}
 use native.Mathlib.Nat.{zero-add}
-use mathlib.Core.Path.{_≡_, refl, sym, ap, _∙_}
+use mathlib.Core.Path.{_≡_, sym, ap, _∙_}
 use mathlib.Core.List.{List}
 use mathlib.Core.Bool.{false}
-use lib.ListN.{length, take, drop}
-use lib.Dec.{ltb, eqb}
-use borrow.Author.Tests.{le-ltb, ne-eqb, eq-eqb, eqb-true}
-use Rattle.octets.specs.Choice.{pick, pick-so}
+use lib.ListN.{length}
+use lib.Dec.{eqb}
+use borrow.Author.Tests.{le-ltb, ne-eqb, eqb-true}
+use Rattle.octets.specs.Choice.{pick-so}
 use Rattle.octets.specs.Reading.{oct, Octets}
 use Rattle.octets.specs.Has.{Has, has-at, has-bound, has-cut}
-use Rattle.octets.specs.Numbers.{valueAt, digits, widthOf, longForm, value-shift, value-digits, digits-value, value-below, length-digits, octets-digits, width-holds, width-range, short-form, long-form}
+use Rattle.octets.specs.Numbers.{valueAt, digits, widthOf, longForm, value-shift, value-digits, digits-value, length-digits, octets-digits, width-holds, width-range, short-form, long-form}
 use Rattle.items.specs.Records.{Rec, rec}
 use Rattle.services.specs.Parts.{anyNumber, numberRule, objectRule}
 use Rattle.services.specs.Layout.{shortest}
-use Rattle.services.proofs.Places.{Kept, number-kept}
+use Rattle.services.proofs.Places.{Kept}
 
 -- octets that stand somewhere are one number there and by themselves
 stands-value : (o : List ℕ) (p : ℕ) (xs : List ℕ) → Has o p xs → valueAt o p (length xs) ≡ valueAt xs 0 (length xs)

@@ -1,33 +1,32 @@
 -- The parts of a service among items: what is read of the items that stand from a place on, and what stands there where a part was read.
-use Prim.Native.Nat.{ℕ, zero, suc, _+_, _-_, _*_, _/_, _%_, _^_, _≤_, _<_}
+use Prim.Native.Nat.{ℕ, zero, suc, _+_, _-_, _≤_}
 use native.Mathlib.Omega.{arith}
 use mathlib.Core.Path.{_≡_, refl, sym, ap, subst, _∙_}
 use mathlib.Core.List.{List, [], _∷_, _++_, append-assoc, append-nil}
 use mathlib.Core.Bool.{Bool, true, false}
-use lib.ListN.{length, take, drop, length-append}
-use lib.Dec.{ltb, eqb, lit<}
-use borrow.Author.Tests.{eq-eqb, ne-eqb, eqb-true, ltb-false}
-use Rattle.octets.specs.Choice.{pick, both, non, pick-not, by-test}
+use lib.ListN.{length, length-append}
+use lib.Dec.{ltb}
+use borrow.Author.Tests.{eq-eqb, eqb-true, ltb-false}
+use Rattle.octets.specs.Choice.{both, non, pick-not, by-test}
 use Rattle.octets.specs.Reading.{Octets}
 use Rattle.octets.specs.Has.{Has, has-left, has-right, has-bound, has-cut}
-use Rattle.octets.specs.Numbers.{valueAt, digits, value-below}
+use Rattle.octets.specs.Numbers.{valueAt}
 use Rattle.tags.specs.Layout.{Thing, encode, tagLength, contentsOf, numberOctets}
 use Rattle.tags.specs.Layout.Thing.{application, boolean, context, opening, closing}
-use Rattle.tags.specs.Decide.{both-true}
 use Rattle.tags.proofs.Exact.{contents-stand}
 use Rattle.items.specs.Records.{Rec, rec}
 use Rattle.items.specs.Reading.{mostItems}
 use Rattle.items.specs.Grammar.{encodeAll, Balanced, AllValid, recordOf, depthAfter, recordsFrom}
-use Rattle.services.specs.Parts.{Then, is, present, wanted, numberOf, numberRule, anyNumber, contextNumber, optionalNumber, group, afterGroup, last}
+use Rattle.services.specs.Parts.{Then, is, present, wanted, numberOf, numberRule, anyNumber, optionalNumber, group, last}
 use Rattle.services.specs.Layout.{shortest, optional, valued}
 use Rattle.services.specs.Shows.{valueOctets}
 use Rattle.services.specs.declared.Answer.{Answer}
 use Rattle.services.specs.declared.Answer.the-variants.{Good, Refused}
 use Rattle.services.specs.declared.Service.{Service}
 use Rattle.services.specs.declared.Span.{Span}
-use Rattle.services.proofs.Places.{Kept, number-kept}
+use Rattle.services.proofs.Places.{number-kept}
 use Rattle.services.proofs.Spelling.{spelled, shortest-value, shortest-keeps}
-use Rattle.services.proofs.Groups.{balanced-more, Split, split, past}
+use Rattle.services.proofs.Groups.{balanced-more, split, past}
 
 -- good and refused are never both
 pub never : {X : Type 0} (x : ℕ) (v : Service) → Refused x ≡ Good v → X
@@ -269,6 +268,21 @@ pub last-read : (at : ℕ) (ts : List Thing) (w v : Service) → last w (records
 unfolding last recordsFrom
 last-read at [] w v e = (refl, (let z : w ≡ v = cc in z))
 last-read at (t ∷ ts) w v e = never 42 v e
+
+-- a number that was read last
+pub record LastNumber (make : List ℕ → Thing) (low high : ℕ) (build : ℕ → Service) (ts : List Thing) (v : Service) : Type 0 where
+  pub value : ℕ
+  pub things : ts ≡ make (shortest value) ∷ []
+  pub least : low ≤ value
+  pub most : value ≤ high
+  pub service : build value ≡ v
+
+pub last-number : (o : List ℕ) → Octets o → (kind number : ℕ) (make : List ℕ → Thing) → Shape kind number make → (low high : ℕ) (build : ℕ → Service) (at : ℕ) (ts : List Thing) (v : Service) → Here o at ts
+    → wanted kind number (numberRule o low high) (numberOf o) (λ x. last (build x)) (recordsFrom at 0 ts) ≡ Good v → LastNumber make low high build ts v
+last-number o os kind number make shape low high build at ts v h e =
+    let a = number-read o kind number make shape os low high (λ x. last (build x)) at ts v h e in
+    let l = last-read _ (a .rest) (build (a .value)) v (a .goes) in
+    record { value = a .value; things = a .things ∙ ap (λ (us : List Thing). make (shortest (a .value)) ∷ us) (l .0); least = a .least; most = a .most; service = l .1 }
 
 pub last-reads : (at : ℕ) (w : Service) → last w (recordsFrom at 0 []) ≡ Good w
 unfolding last recordsFrom

@@ -1,20 +1,19 @@
 -- A layout that stands somewhere is read.
-use Prim.Native.Nat.{ℕ, zero, suc, _+_, _*_, _%_, _≤_, _<_}
+use Prim.Native.Nat.{ℕ, zero, _+_, _*_, _%_, _≤_}
 use native.Mathlib.Omega.{arith}
-use mathlib.Core.Path.{_≡_, refl, sym, ap, subst, _∙_}
+use mathlib.Core.Path.{_≡_, refl, sym, subst, _∙_}
 use mathlib.Core.Logic.{_⊎_, inl, inr}
 use mathlib.Core.List.{List, [], _∷_, _++_, append-nil}
 use mathlib.Core.Bool.{Bool, true, false}
 use lib.ListN.{length}
-use Rattle.octets.specs.Numbers.{digits}
-use Rattle.tags.specs.Layout.{Thing, encode}
+use Rattle.tags.specs.Layout.{Thing}
 use Rattle.tags.specs.Layout.Thing.{application, context}
 use Rattle.items.specs.Grammar.{encodeAll, Balanced, recordOf, recordsFrom}
 use Rattle.items.specs.Reading.{mostItems}
-use Rattle.services.specs.Parts.{present, anyNumber, group, last, optionalNumber, applicationNumber}
+use Rattle.services.specs.Parts.{present, anyNumber, group, last}
 use Rattle.services.specs.Reading.{lastInstance, layoutFor}
 use Rattle.services.specs.Reading as reading
-use Rattle.services.specs.Layout.{Message, Pointed, shortest, optional, pointed, valued, thingsOfMessage, Pointing, Absent, Ranges, WholeValue}
+use Rattle.services.specs.Layout.{Message, Pointed, shortest, optional, pointed, valued, thingsOfMessage, Pointing, Ranges, WholeValue}
 use Rattle.services.specs.Layout.Message.{readProperty, readPropertyAck, writeProperty, whoIs, iAm, errorOf}
 use Rattle.services.specs.Shows.{For, messageOf}
 use Rattle.services.specs.declared.Answer.the-variants.{Good}
@@ -89,13 +88,14 @@ module _ (kind choice : ℕ) (o : List ℕ) where
       → Here o 0 (thingsOfMessage (writeProperty p ts ranked priority)) → Reads kind choice o (writeProperty p ts ranked priority)
   unfolding layoutFor reading.writeProperty messageOf thingsOfMessage
   write-reads p ts ranked priority f ok whole h =
+      let one : 1 ≤ mostItems = omega arith in
+      let any : priority ≤ anyNumber = omega (arith, small-option ranked priority 1 16 (ok .1) (ok .2)) in
       let us : List Thing = optional ranked 4 priority in
       let e : us ≡ us ++ [] = nothing-behind us in
       let t = target-reads o _ 0 p (valued ts ++ us) (ok .0) h (group-next ts us) in
       let at : ℕ = 0 + length (encodeAll (pointed p)) in
       let g = group-reads o at ts us (t .1) whole _ in
-      let l = group-left o at ts us (t .1) whole 1 (omega arith) (optional-balanced ranked 4 priority) in
-      let any : priority ≤ anyNumber = omega (arith, small-option ranked priority 1 16 (ok .1) (ok .2)) in
+      let l = group-left o at ts us (t .1) whole 1 one (optional-balanced ranked 4 priority) in
       let r = option-reads o 4 1 16 (λ ranked priority. last (WriteProperty (record { target = targetOf p; value = record { at = at + 1; len = length (encodeAll ts) }; ranked = ranked; priority = priority }))) ranked priority _ [] any (ok .1) (ok .2) (none-next 4 _) (subst (Here o _) e l) in
       record {
         service = WriteProperty (record { target = targetOf p; value = record { at = at + 1; len = length (encodeAll ts) }; ranked = ranked; priority = priority });
@@ -109,9 +109,10 @@ module _ (kind choice : ℕ) (o : List ℕ) where
   unfolding layoutFor reading.whoIs messageOf thingsOfMessage
   who-reads true low high f ok h =
       let r = ok .0 refl in
+      let any : high ≤ anyNumber = omega (arith, r .1) in
       let a = number-reads o 1 0 (context 0) (contexts 0) 0 lastInstance low _ 0 (context 1 (shortest high) ∷ []) (omega (arith, r .0, r .1)) (omega arith) (omega (arith, r .0, r .1)) h in
       let h1 = here-next o 1 0 (context 0) (contexts 0) 0 (shortest low) (context 1 (shortest high) ∷ []) h in
-      let b = number-reads o 1 1 (context 1) (contexts 1) low lastInstance high (λ high. last (WhoIs (record { limited = true; low = low; high = high }))) _ [] (omega (arith, r .1)) (r .0) (r .1) h1 in
+      let b = number-reads o 1 1 (context 1) (contexts 1) low lastInstance high (λ high. last (WhoIs (record { limited = true; low = low; high = high }))) _ [] any (r .0) (r .1) h1 in
       record { service = WhoIs (record { limited = true; low = low; high = high }); read = rw (f .0, f .1, first-there (shortest low) (context 1 (shortest high) ∷ [])) (a ∙ b ∙ last-reads _ _); stands = refl; shown = refl }
   who-reads false low high f ok h =
       let x = ok .1 refl in
@@ -125,16 +126,21 @@ module _ (kind choice : ℕ) (o : List ℕ) where
       let two = applications 2 (λ e. omega arith) in
       let nine = applications 9 (λ e. omega arith) in
       let w : ℕ = 8 * 4194304 + instance in
+      let i : w % 4194304 ≡ instance = omega (arith, ok .0) in
+      let zl : 0 ≤ longest = omega arith in
+      let zs : 0 ≤ segmentation = omega arith in
+      let zv : 0 ≤ vendor = omega arith in
+      let bs : segmentation ≤ anyNumber = omega (arith, ok .2) in
+      let bv : vendor ≤ anyNumber = omega (arith, ok .3) in
       let u3 : List Thing = application 2 (shortest vendor) ∷ [] in
       let u2 : List Thing = application 9 (shortest segmentation) ∷ u3 in
       let u1 : List Thing = application 2 (shortest longest) ∷ u2 in
       let d = device-reads o _ 0 instance u1 (ok .0) h in
-      let a = number-reads o 0 2 (application 2) two 0 anyNumber longest _ _ u2 (ok .1) (omega arith) (ok .1) (d .1) in
+      let a = number-reads o 0 2 (application 2) two 0 anyNumber longest _ _ u2 (ok .1) zl (ok .1) (d .1) in
       let h2 = here-next o 0 2 (application 2) two _ (shortest longest) u2 (d .1) in
-      let b = number-reads o 0 9 (application 9) nine 0 3 segmentation _ _ u3 (omega (arith, ok .2)) (omega arith) (ok .2) h2 in
+      let b = number-reads o 0 9 (application 9) nine 0 3 segmentation _ _ u3 bs zs (ok .2) h2 in
       let h3 = here-next o 0 9 (application 9) nine _ (shortest segmentation) u3 h2 in
-      let c = number-reads o 0 2 (application 2) two 0 65535 vendor _ _ [] (omega (arith, ok .3)) (omega arith) (ok .3) h3 in
-      let i : w % 4194304 ≡ instance = omega (arith, ok .0) in
+      let c = number-reads o 0 2 (application 2) two 0 65535 vendor _ _ [] bv zv (ok .3) h3 in
       record {
         service = IAm (record { instance = w % 4194304; longest = longest; segmentation = segmentation; vendor = vendor });
         read = rw (f .0, f .1) (d .0 ∙ a ∙ b ∙ c ∙ last-reads _ _);
@@ -154,10 +160,11 @@ module _ (kind choice : ℕ) (o : List ℕ) where
   unfolding reading.errorOf messageOf thingsOfMessage
   error-reads class code f ok h =
       let nine = applications 9 (λ e. omega arith) in
+      let zero : 0 ≤ code = omega arith in
       let u : List Thing = application 9 (shortest code) ∷ [] in
       let a = number-reads o 0 9 (application 9) nine 0 anyNumber class _ 0 u (ok .0) (omega arith) (ok .0) h in
       let h1 = here-next o 0 9 (application 9) nine 0 (shortest class) u h in
-      let b = number-reads o 0 9 (application 9) nine 0 anyNumber code _ _ [] (ok .1) (omega arith) (ok .1) h1 in
+      let b = number-reads o 0 9 (application 9) nine 0 anyNumber code _ _ [] (ok .1) zero (ok .1) h1 in
       record { service = Error (record { class = class; code = code }); read = error-layout class code f ∙ a ∙ b ∙ last-reads _ _; stands = refl; shown = refl }
 
   pub layout-reads : (m : Message) → For kind choice m → Ranges m → WholeValue m → Here o 0 (thingsOfMessage m) → Reads kind choice o m

@@ -1,10 +1,10 @@
 -- What the layouts share: a part of a service is read off the records of the parameters, left to right, and the rest goes on.
 -- "40: the next item is missing or not of the wanted kind and number. 41: wrong length, a longer form than needed, or out of range."
-use Prim.Native.Nat.{ℕ, _+_, _-_, _/_, _%_}
+use Prim.Native.Nat.{ℕ, _-_, _/_, _%_}
 use mathlib.Core.Bool.{Bool, true, false}
 use mathlib.Core.List.{List, [], _∷_}
 use lib.ListN.{length}
-use lib.Dec.{ltb, leb, eqb}
+use lib.Dec.{ltb, eqb}
 use Rattle.octets.specs.Choice.{pick, both, non}
 use Rattle.octets.specs.Reading.{oct, refuse}
 use Rattle.octets.specs.Numbers.{valueAt, longForm}

@@ -1,17 +1,15 @@
 -- The reading of a service's parameters: "Tag refusals 30 to 39 come before 43 and 40 to 42."
 use Prim.Native.Nat.{ℕ}
 use mathlib.Core.Bool.{Bool, true, false}
-use mathlib.Core.List.{List, [], _∷_}
-use lib.Dec.{ltb, eqb}
+use mathlib.Core.List.{List}
+use lib.Dec.{eqb}
 use Rattle.octets.specs.Choice.{pick, both}
-use Rattle.octets.specs.Reading.{refuse}
 use Rattle.items.specs.Records.{Rec}
 use Rattle.items.specs.Reading.{Out, itemsOf}
 use Rattle.items.specs.Reading.Out.{good, bad}
-use Rattle.services.specs.Parts.{wanted, present, numberRule, numberOf, objectRule, anyNumber, typeOf, instanceOf, contextNumber, applicationNumber, contextObject, optionalNumber, group, last}
+use Rattle.services.specs.Parts.{wanted, present, numberOf, anyNumber, typeOf, instanceOf, contextNumber, applicationNumber, contextObject, optionalNumber, group, last}
 use Rattle.services.specs.declared.Answer.{Answer}
-use Rattle.services.specs.declared.Answer.the-variants.{Good, Refused}
-use Rattle.services.specs.declared.Service.{Service}
+use Rattle.services.specs.declared.Answer.the-variants.{Refused}
 use Rattle.services.specs.declared.Service.the-variants.{ReadProperty, ReadPropertyAck, WriteProperty, WhoIs, IAm, Error}
 use Rattle.services.specs.declared.Target.{Target}
 

@@ -8,14 +8,13 @@ use lib.ListN.{length, take, drop, getD, length-append, length-drop}
 use lib.Seq.{length-take-le}
 use lib.Dec.{ltb, leb, eqb}
 use borrow.Author.Tests.{ltb-true, ltb-false, leb-true, eqb-true, eqb-false, lt-ltb, le-ltb, lt-leb, eq-eqb, ne-eqb}
-use Rattle.octets.specs.Choice.{pick-cases, by-test, both}
+use Rattle.octets.specs.Choice.{pick-cases, by-test, both, both-true}
 use Rattle.octets.specs.Reading.{oct, Octets}
 use Rattle.octets.specs.Has.{Has, has-bound, has-append, has-left, has-right, has-take}
 use Rattle.tags.specs.Types.{longest, least, most}
 use Rattle.tags.specs.Head.{numberAt, lengthAt, firstRule, contentsAt, contextAt, applicationAt, headAt}
 use Rattle.tags.specs.Layout.{Thing, highBits, numberOctets, lowBits, lengthOctets, encode, Application, Valid, goodContents, tagLength, contentsOf, tagOf, Good, Stands}
 use Rattle.tags.specs.Layout.Thing.{application, boolean, context, opening, closing}
-use Rattle.tags.specs.Decide.{both-true}
 use Rattle.tags.specs.declared.Tag.{Tag}
 use Rattle.tags.specs.declared.Tag.the-variants.{Item, Opening, Closing}
 use Rattle.tags.proofs.Bounds.{and-then, contents-in, first-bits, boolean-bits}

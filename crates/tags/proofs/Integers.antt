@@ -9,14 +9,13 @@ use lib.ListN.{length, getD}
 use lib.Seq.{ext-getD}
 use lib.Dec.{lit<, ltb, leb, eqb}
 use borrow.Author.Tests.{ltb-true, ltb-false, leb-true, leb-false, eqb-true, eqb-false, lt-ltb, le-ltb}
-use Rattle.octets.specs.Choice.{pick-cases, by-test, non}
+use Rattle.octets.specs.Choice.{pick-cases, by-test, non, non-true}
 use Rattle.octets.specs.Reading.{oct, Octets}
 use Rattle.octets.specs.Numbers.{valueAt, widthOf, longForm, value-below, value-same, short-form, long-form}
 use Rattle.tags.specs.Head.{signBad}
 use Rattle.tags.specs.Layout.{shortUnsigned, shortSigned}
 use Rattle.tags.specs.Signed.{Whole, signedValue}
 use Rattle.tags.specs.Signed.Whole.{plus, minus}
-use Rattle.tags.specs.Decide.{non-true}
 use Rattle.tags.proofs.Rule.{sign-exact}
 
 -- the rule "first not 00 if more than one" is that of the shortest form

@@ -7,21 +7,11 @@ use lib.Dec.{lit<, ltb}
 use borrow.Author.Tests.{ltb-true}
 use Rattle.octets.specs.Choice.{pick-cases}
 use Rattle.octets.specs.Reading.{Octets}
+use Rattle.octets.specs.Every.{octets-none, octets-more, octets-join}
 use Rattle.tags.specs.Types.{longest}
 use Rattle.tags.specs.Layout.{Thing, numberOctets, lengthOctets, encode, Valid, contentsOf}
 use Rattle.tags.specs.Layout.Thing.{application, boolean, context, opening, closing}
 use Rattle.tags.proofs.Exact.{low-small, high-small, most-longest}
-
-octets-none : Octets []
-octets-none i = lit< tt
-
-octets-more : (x : ℕ) (xs : List ℕ) → x < 256 → Octets xs → Octets (x ∷ xs)
-octets-more x xs h os zero = h
-octets-more x xs h os (suc i) = os i
-
-octets-join : (xs ys : List ℕ) → Octets xs → Octets ys → Octets (xs ++ ys)
-octets-join [] ys a b = b
-octets-join (x ∷ xs) ys a b = octets-more x (xs ++ ys) (a 0) (octets-join xs ys (λ i. a (suc i)) b)
 
 number-octets : (n : ℕ) → n ≤ 254 → Octets (numberOctets n)
 unfolding numberOctets

@@ -4,7 +4,7 @@ use mathlib.Core.Bool.{Bool, true, false}
 use lib.ListN.{length}
 use lib.Dec.{leb, eqb}
 use borrow.Author.Tests.{leb-true, le-leb, eqb-false, ne-eqb}
-use Rattle.octets.specs.Choice.{both, non}
+use Rattle.octets.specs.Choice.{both, non, both-true, true-both, non-true}
 use Rattle.tags.specs.Types.{longest, least, most}
 use Rattle.tags.specs.Layout.{Thing, Valid, goodContents}
 use Rattle.tags.specs.Layout.Thing.{application, boolean, context, opening, closing}
@@ -15,18 +15,6 @@ validThing (boolean v) = leb v 1
 validThing (context n xs) = both (leb n 254) (leb (length xs) longest)
 validThing (opening n) = leb n 254
 validThing (closing n) = leb n 254
-
--- both of two tests, and the denial of one
-pub both-true : (a b : Bool) → both a b ≡ true → (a ≡ true) × (b ≡ true)
-both-true true b e = (refl, e)
-both-true false b e = (e, cc)
-
-pub true-both : (a b : Bool) → a ≡ true → b ≡ true → both a b ≡ true
-true-both a b e d = rw (e, d)
-
-pub non-true : (a : Bool) → non a ≡ true → a ≡ false
-non-true true e = cc
-non-true false e = refl
 
 -- the test holds only of items that keep the rules
 pub valid-test : (t : Thing) → validThing t ≡ true → Valid t

@@ -1,5 +1,5 @@
 use Rattle.service_writer.specs.Writing.{octetsOf}
-use mathlib.Core.Path.{_≡_, refl, sym, ap, subst, _∙_}
+use mathlib.Core.Path.{refl}
 use Rattle.service_writer.proofs.Promise
 use borrow.Author.Needs.{needs}
 use Rattle.service_writer.proofs.write.Statement.{statement}

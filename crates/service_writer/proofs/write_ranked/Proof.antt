@@ -1,5 +1,5 @@
 use Rattle.service_writer.proofs.Promise
-use mathlib.Core.Path.{_≡_, refl, sym, ap, subst, _∙_}
+use mathlib.Core.Path.{sym, _∙_}
 use native.Mathlib.Omega.{arith}
 use Rattle.service_writer.proofs.Items
 use borrow.Author.Needs.{needs}

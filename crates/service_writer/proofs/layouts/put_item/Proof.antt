@@ -1,4 +1,4 @@
-use Rattle.octets.specs.Numbers.{widthOf, width-range}
+use Rattle.octets.specs.Numbers.{width-range}
 use native.Mathlib.Omega.{arith}
 use Rattle.service_writer.proofs.Items
 use borrow.Author.Needs.{needs}

@@ -1,6 +1,4 @@
 use Rattle.service_writer.proofs.Items
-use mathlib.Core.Path.{_≡_, refl, sym, ap, subst, _∙_}
-use native.Mathlib.Omega.{arith}
 use borrow.Author.Needs.{needs}
 use Rattle.service_writer.proofs.layouts.put_object.Statement.{statement}
 use Rattle.service_writer.proofs.layouts.put_object.Tie as tie

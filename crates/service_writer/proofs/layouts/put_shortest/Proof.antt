@@ -2,8 +2,8 @@ use Rattle.octets.specs.Splice.{splice}
 use Prim.Native.Nat.{ℕ}
 use mathlib.Core.List.{List}
 use Rattle.service_writer.proofs.Items
-use Rattle.octets.specs.Numbers.{widthOf, width-range}
-use mathlib.Core.Path.{_≡_, refl, sym, ap, subst, _∙_}
+use Rattle.octets.specs.Numbers.{width-range}
+use mathlib.Core.Path.{refl, ap, _∙_}
 use native.Mathlib.Omega.{arith}
 use borrow.Author.Needs.{needs}
 use Rattle.service_writer.proofs.layouts.put_shortest.Statement.{statement}

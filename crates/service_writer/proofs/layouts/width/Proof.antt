@@ -1,5 +1,5 @@
 use borrow.Author.Needs.{needs}
-use Rattle.octets.specs.Numbers.{widthOf, width-range}
+use Rattle.octets.specs.Numbers.{widthOf}
 use Rattle.octets.specs.Rules.{tests}
 use Rattle.service_writer.proofs.layouts.width.Statement.{statement}
 use Rattle.service_writer.proofs.layouts.width.Tie as tie

@@ -1,6 +1,5 @@
 use Rattle.services.specs.Reading.{whoIs}
-use mathlib.Core.Path.{_≡_, refl, sym, _∙_}
-use Rattle.services.proofs.Places
+use mathlib.Core.Path.{sym, _∙_}
 use borrow.Author.Needs.{needs}
 use Rattle.services.proofs.others.who_is.Statement.{statement}
 use Rattle.services.proofs.others.who_is.Tie as tie
@@ -12,6 +11,6 @@ who-is-spec =
     (tie.spec
     (λ c κs. search needs)
     (λ c κs. search needs)
-    (λ c. λ rs w. simp (sym (c .before .before .present .ensures rs w) ∙ c .before .if1 .taken) (c .limits .ensures rs w))
+    (λ c rs w. simp (sym (c .before .before .present .ensures rs w) ∙ c .before .if1 .taken) (c .limits .ensures rs w))
     (λ c κs. search needs)
-    (λ c. λ rs w. simp (sym (c .before .before .present .ensures rs w) ∙ c .before .if1 .left) (c .last .ensures rs w)))
+    (λ c rs w. simp (sym (c .before .before .present .ensures rs w) ∙ c .before .if1 .left) (c .last .ensures rs w)))

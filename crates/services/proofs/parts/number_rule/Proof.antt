@@ -1,5 +1,5 @@
-use mathlib.Core.Path.{_≡_, refl, sym, _∙_}
-use borrow.Author.Tests.{lt-ltb, le-ltb, eq-eqb, ne-eqb}
+use mathlib.Core.Path.{sym, _∙_}
+use borrow.Author.Tests.{lt-ltb, le-ltb, ne-eqb}
 use Rattle.services.specs.Parts.{numberRule}
 use Rattle.octets.specs.Rules.{tests}
 use borrow.Author.Needs.{needs}

@@ -1,6 +1,6 @@
 use Rattle.services.specs.Places.{foundIn}
 use Rattle.octets.specs.Rules.{tests}
-use mathlib.Core.Path.{_≡_, refl, sym, _∙_}
+use mathlib.Core.Path.{sym, _∙_}
 use borrow.Author.Needs.{needs}
 use Rattle.services.proofs.parts.wanted.Statement.{statement}
 use Rattle.services.proofs.parts.wanted.Tie as tie

@@ -17,5 +17,5 @@ target-spec =
     (λ c. search needs)
     (λ c. search needs)
     (λ c. Places.target-rest _ _ _ _ _ (Places.part-goes _ _ _ _ (c .before .before .before .before .before .before .before .before .object .ensures) (c .before .before .before .before .before .before .o .given .1)) (Places.part-goes _ _ _ _ (c .before .before .before .before .number .ensures .0) (c .before .before .p .given .1)) (c .index .result) (c .index .ensures))
-    (λ c. λ next. Places.part-goes _ _ _ _ (c .before .before .before .before .before .before .before .object .ensures) (c .before .before .before .before .before .o .given .1) _ _ (Places.part-stops _ _ _ _ (c .before .before .before .number .ensures .0) (c .before .p2 .given .1) _))
-    (λ c. λ next. Places.part-stops _ _ _ _ (c .before .before .before .object .ensures) (c .before .o2 .given .1) _))
+    (λ c next. Places.part-goes _ _ _ _ (c .before .before .before .before .before .before .before .object .ensures) (c .before .before .before .before .before .o .given .1) _ _ (Places.part-stops _ _ _ _ (c .before .before .before .number .ensures .0) (c .before .p2 .given .1) _))
+    (λ c next. Places.part-stops _ _ _ _ (c .before .before .before .object .ensures) (c .before .o2 .given .1) _))
