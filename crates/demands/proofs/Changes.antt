@@ -1,43 +1,38 @@
 -- Demand 1: what the collector's calls change, refused or not.
-use Prim.Native.Nat.{ℕ, _+_, _*_}
+use Prim.Native.Nat.{ℕ, _*_}
 use native.Mathlib.Omega.{arith}
-use mathlib.Core.Path.{_≡_, refl, sym, ap, subst, _∙_}
-use mathlib.Core.Bool.{Bool, true, false}
-use mathlib.Core.List.{List, [], _∷_, _++_}
+use mathlib.Core.Path.{_≡_, refl, sym, ap, _∙_}
+use mathlib.Core.Bool.{false}
+use mathlib.Core.List.{List, []}
 use mathlib.Core.Option.{Option, none, some}
 use lib.Dec.{eqb}
 use lib.ListN.{length, length-append}
 use borrow.Author.Tests.{eqb-false}
-use Rattle.octets.specs.Choice.{pick, both, by-test, pick-case}
-use Rattle.octets.specs.Numbers.{digits, length-digits}
+use Rattle.octets.specs.Choice.{pick, by-test}
+use Rattle.octets.specs.Numbers.{length-digits}
 use Rattle.octets.specs.Reading.{oct}
 use Rattle.apdu.specs.Fields.{invokeOf, choiceOf}
 use Rattle.items.specs.Reading.{Out, itemsOf}
 use Rattle.items.specs.Reading.Out.{good, bad}
 use Rattle.frames.specs.Step.{soundOf, feedOf, silenceOf}
 use Rattle.frames.specs.declared.Receiver.{Receiver}
-use Rattle.frames.specs.declared.Fed.{Fed as ReceiverFed}
 use Rattle.runs.specs.Offered.{answer, caught}
 use Rattle.trunk.specs.Reading as Trunk
 use Rattle.trunk.specs.Reading.Out.{good as whole, damage}
-use Rattle.trunk.specs.Demand.{outOf, hurtBy, unmoved}
-use Rattle.messages.specs.Slots.{Segment, Slot, boxed, room, part, empty, slotAt}
+use Rattle.trunk.specs.Demand.{outOf, unmoved}
+use Rattle.messages.specs.Slots.{Segment, boxed, room, part, slotAt}
 use Rattle.messages.specs.Rows as Rows
-use Rattle.messages.specs.Rows.{rebuild, forgetNumber, forgotten}
+use Rattle.messages.specs.Rows.{rebuild, forgetNumber}
 use Rattle.messages.specs.Rows.Answer.{refused, taken, completed}
-use Rattle.messages.proofs.Tests.{never, both-left, both-right}
 use Rattle.rebuild.specs.View.{keys}
 use Rattle.rebuild.specs.declared.Key.{Key}
 use Rattle.rebuild.proofs.Seen.{view-one}
 use Rattle.recordings.specs.Frames.{actOn, rules}
-use Rattle.collector.specs.Report.{reportOctets, damaged}
-use Rattle.collector.specs.Frame.{Content, contentOf, paramsOf, bacnet, byTags, plainReport, segmentReport, answeredReport, segmentAt, plainAt, answeredAt}
+use Rattle.collector.specs.Report.{reportOctets}
+use Rattle.collector.specs.Frame.{Content, contentOf, paramsOf, bacnet, byTags, plainReport, answeredReport, segmentAt, plainAt, answeredAt}
 use Rattle.collector.specs.Frame.Content.{other, refuses, network, message}
-use Rattle.collector.specs.Calls.{box, sound, passing, sized, slotsOf, written, saidSo, unfedBy, quietBy, Answered, feedRefusal, feeding, Tells, Feeds, silenceRefusal, stilling, Falls, Stills, Forgets}
+use Rattle.collector.specs.Calls.{box, sound, passing, sized, slotsOf, written, saidSo, unfedBy, quietBy, Answered, feedRefusal, feeding, Feeds, silenceRefusal, stilling, Stills}
 use Rattle.collector.specs.declared.Collector.{Collector}
-use Rattle.collector.specs.declared.Fed.{Fed}
-use Rattle.collector.specs.declared.Fell.{Fell}
-use Rattle.collector.specs.declared.Forgot.{Forgot}
 use Rattle.collector.proofs.Alike.{feeds-one, stills-one}
 use Rattle.collector.proofs.Refusals.{refused-keeps}
 use Rattle.collector.proofs.Demand as Demand

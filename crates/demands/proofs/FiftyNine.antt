@@ -1,5 +1,5 @@
 -- 59's test holds exactly where none of the page's words is true of the state, and 60 and 59 are given exactly when.
-use Prim.Native.Nat.{ℕ, zero, suc, _+_, _*_, _≤_, _<_}
+use Prim.Native.Nat.{ℕ, suc, _+_, _≤_, _<_}
 use native.Mathlib.Omega.{arith}
 use mathlib.Core.Path.{_≡_, refl, sym, ap, _∙_}
 use mathlib.Core.Logic.{_↔_, _⊎_, inl, inr, ⊎-elim}
@@ -7,25 +7,23 @@ use mathlib.Core.Bool.{Bool, true, false}
 use mathlib.Core.List.{List, [], _∷_}
 use lib.Dec.{eqb, ltb, leb}
 use lib.ListN.{length, replicate, length-replicate, List·getD-eq-default}
-use borrow.Author.Tests.{eqb-true, eqb-false, eq-eqb, ne-eqb, ltb-true, ltb-false, lt-ltb, le-ltb, leb-true, leb-false, le-leb, lt-leb}
-use Rattle.octets.specs.Choice.{pick, both, non, by-test}
-use Rattle.frames.specs.Step.{most, lengthOf, dataSound, soundIn, soundOf, feedOf, silenceOf}
-use Rattle.frames.specs.declared.Link.{Link}
+use borrow.Author.Tests.{eqb-true, eq-eqb, ltb-true, ltb-false, le-ltb, leb-false, lt-leb}
+use Rattle.octets.specs.Choice.{pick, both, by-test}
+use Rattle.frames.specs.Step.{most, lengthOf, dataSound, soundIn, soundOf}
 use Rattle.frames.specs.declared.Phase.{Phase}
 use Rattle.frames.specs.declared.Phase.the-variants.{Hunting, Preamble, Header, Data}
 use Rattle.frames.specs.declared.Receiver.{Receiver}
 use Rattle.frames.proofs.Calls.{feed-refused, silence-refused}
-use Rattle.messages.specs.Slots.{Slot, room, empty, slotAt, openTo, lowest, isSome}
-use Rattle.messages.specs.Rows.{forgetNumber}
-use Rattle.messages.specs.Sound.{twice, sound, passes}
+use Rattle.messages.specs.Slots.{Slot, room, empty, slotAt, openTo, lowest}
+use Rattle.messages.specs.Sound.{twice, sound}
 use Rattle.messages.proofs.Tests.{never, both-left, both-right, some-true}
 use Rattle.messages.proofs.Lowest.{lowest-some}
 use Rattle.messages.proofs.Sound.{good-of}
-use Rattle.rebuild.specs.View.{keys, view}
+use Rattle.rebuild.specs.View.{keys}
 use Rattle.rebuild.specs.declared.Key.{Key}
 use Rattle.rebuild.proofs.Page.{key-laws}
 use Rattle.collector.specs.Calls as Box
-use Rattle.collector.specs.Calls.{passing, sized, slotsOf, feedRefusal, silenceRefusal, Feeds, Stills, Forgets}
+use Rattle.collector.specs.Calls.{passing, slotsOf, feedRefusal, silenceRefusal}
 use Rattle.collector.specs.declared.Collector.{Collector}
 use Rattle.demands.specs.Words.{SixtyThenFiftyNine, BrokenReceiver, BrokenSlots, Broken, Four}
 use Rattle.demands.specs.Words.BrokenReceiver.{header-over, data-over, no-length, long-length}

@@ -1,14 +1,14 @@
 -- Every refusal of a reading or of a writer's fields is one of the page's rows for it.
 use Prim.Native.Nat.{ℕ, zero, suc, _+_, _-_, _/_, _%_, _≤_, _<_}
 use native.Mathlib.Omega.{arith}
-use mathlib.Core.Path.{_≡_, refl, sym, ap, subst, _∙_}
+use mathlib.Core.Path.{_≡_, refl, sym, subst, _∙_}
 use mathlib.Core.Logic.{_⊎_, inl, inr}
 use mathlib.Core.List.{List, [], _∷_}
-use mathlib.Core.Bool.{Bool, true, false}
+use mathlib.Core.Bool.{Bool, true}
 use lib.ListN.{length}
 use lib.Dec.{ltb, leb, eqb}
 use borrow.Author.Tests.{ltb-true, ltb-false, leb-true}
-use Rattle.octets.specs.Choice.{pick, given, pick-case, pick-cases, given-cases, by-test, both, non}
+use Rattle.octets.specs.Choice.{pick, pick-case, pick-cases, given-cases, by-test}
 use Rattle.octets.specs.Reading.{oct, be16}
 use Rattle.tags.specs.Types.{longest, least, most}
 use Rattle.tags.specs.Head.{andThen, numberAt, twoAt, fourAt, lengthAt, firstRule, firstContent, wholeAt, signBad, signedAt, contentsAt, contextAt, applicationAt, headAt}
@@ -28,7 +28,6 @@ use Rattle.npdu.proofs.Outcome as Network
 use Rattle.apdu.specs.Laws as Header
 use Rattle.apdu.specs.Writing as HeaderFault
 use Rattle.apdu.specs.declared.Segment.{Segment}
-use Rattle.apdu.specs.declared.Pdu.{Pdu}
 use Rattle.apdu.specs.declared.Pdu.the-variants.{Request, Unconfirmed, SimpleAck, ComplexAck, SegmentAck, Error, Reject, Abort}
 use Rattle.demands.specs.Words.{Between}
 use Rattle.demands.specs.Demands.{NetworkNumbers, HeaderNumbers, CountNumbers, ItemNumbers, NetworkWriterNumbers, HeaderWriterNumbers}

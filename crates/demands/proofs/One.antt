@@ -1,34 +1,34 @@
 -- Demand 1: the writers, listing, and what the collector's calls change.
-use Prim.Native.Nat.{ℕ, zero, suc, _+_, _*_, _%_, _≤_, _<_}
+use Prim.Native.Nat.{ℕ, _+_, _*_, _%_, _≤_, _<_}
 use native.Mathlib.Omega.{arith}
-use mathlib.Core.Path.{_≡_, refl, sym, ap, subst, _∙_}
+use mathlib.Core.Path.{_≡_, refl, sym, ap, _∙_}
 use mathlib.Core.Logic.{_⊎_, inl, inr}
-use mathlib.Core.Bool.{Bool, true, false}
-use mathlib.Core.List.{List, [], _∷_, _++_}
-use mathlib.Core.Option.{Option, none, some}
+use mathlib.Core.Bool.{true, false}
+use mathlib.Core.List.{List, [], _∷_}
+use mathlib.Core.Option.{some}
 use lib.Dec.{eqb, ltb}
-use lib.ListN.{length, drop, set, length-append}
+use lib.ListN.{length, drop}
 use borrow.Author.Tests.{eqb-true, eqb-false, ltb-true, ltb-false, lt-ltb, le-ltb}
-use Rattle.octets.specs.Choice.{pick, both, by-test, pick-case}
-use Rattle.octets.specs.Laid.{Laid, laid-one, laid-fault, laid-short, laid-over, laid-as}
+use Rattle.octets.specs.Choice.{by-test, pick-case}
+use Rattle.octets.specs.Laid.{laid-one, laid-fault, laid-short, laid-over, laid-as}
 use Rattle.octets.specs.Splice.{splice, splice-front, splice-length, splice-behind}
-use Rattle.octets.specs.declared.Written.{Written}
 use Rattle.octets.specs.declared.Written.the-variants.{Wrote, Refused}
 use Rattle.items.specs.Records.{Rec, recordsOctets}
 use Rattle.items.specs.Reading.{Out, itemsOf, counted}
 use Rattle.items.specs.Reading.Out.{good, bad}
-use Rattle.items.specs.Listing.{Listed, listedOf, listing}
+use Rattle.items.specs.Listing.{listedOf, listing}
 use Rattle.items.specs.declared.Tally.{Tally}
 use Rattle.items.proofs.RecordOctets.{records-length}
 use Rattle.item_judge.specs.Judge.{recordsIn, goodRecords, writeFault}
 use Rattle.item_judge.proofs.Sixty as Judge
-use Rattle.frames.specs.Step.{soundOf, feedOf, silenceOf}
+use Rattle.frames.specs.Step.{soundOf, stepOf, reportsOf, feedFrom, feedOf, silenceOf}
+use Rattle.frames.specs.declared.Outcome.{Outcome}
+use Rattle.frames.specs.declared.Outcome.the-variants.{Quiet}
 use Rattle.frames.specs.declared.Receiver.{Receiver}
 use Rattle.frames.specs.declared.Fed.{Fed}
-use Rattle.frames.proofs.Calls.{feed-none, feed-refused, silence-refused}
+use Rattle.frames.proofs.Calls.{feed-none, feed-refused, silence-refused, eaten-most, eaten-some}
 use Rattle.messages.proofs.Tests.{never}
-use Rattle.demands.specs.Words.{WritesBy}
-use Rattle.demands.specs.Demands.{WritersRefuse, SixtyTwo, SixtyOne, ListingRefuses, ReceiverKeeps}
+use Rattle.demands.specs.Demands.{WritersRefuse, SixtyTwo, SixtyOne, ListingRefuses, ReceiverKeeps, ReceiverEats}
 
 -- ---- writers
 pub writers-refuse : WritersRefuse
@@ -56,7 +56,7 @@ pub sixty-two : SixtyTwo
 unfolding writeFault
 sixty-two records source os = (
   (let P : ℕ → Type 0 = λ n. (n ≡ 0) ⊎ (n ≡ 62) in
-  pick-case P (eqb (length records % 12) 0) (pick-case P (goodRecords source (recordsIn records)) (inl refl) (inr refl)) (inr refl)),
+      pick-case P (eqb (length records % 12) 0) (pick-case P (goodRecords source (recordsIn records)) (inl refl) (inr refl)) (inr refl)),
   Judge.sixty-two records source os .0,
   Judge.sixty-two records source os .1,
 )
@@ -76,13 +76,14 @@ module _ (area later : List ℕ) (r : Tally) where
   unfolding listedOf listing
   listed-good rs end k e d z =
       let w = recordsOctets rs in
-      let l : length w ≡ 12 * k = records-length rs ∙ ap (λ (x : ℕ). 12 * x) (sym z) in
-      (λ h. (let g : length area < length w = omega arith in let t : ltb (length area) (length w) ≡ true = lt-ltb _ _ g in (e ∙ rw t, d ∙ rw t)),
-      λ h.
-      (let g : length w ≤ length area = omega arith in
-      let t : ltb (length area) (length w) ≡ false = le-ltb _ _ g in
-      let a : later ≡ splice area 0 w = d ∙ rw t in
-      (e ∙ rw t (ap Tally.Items (sym z)), ap length a ∙ splice-length area 0 w (omega arith), ap (drop (12 * k)) a ∙ splice-behind area 0 w (12 * k) (omega arith) (omega arith))))
+      let l : length w ≡ 12 * k = records-length rs ∙ ap (λ (x : ℕ). 12 * x) (sym z) in (
+        λ h. (let g : length area < length w = omega arith in let t : ltb (length area) (length w) ≡ true = lt-ltb _ _ g in (e ∙ rw t, d ∙ rw t)),
+        λ h.
+            (let g : length w ≤ length area = omega arith in
+            let t : ltb (length area) (length w) ≡ false = le-ltb _ _ g in
+            let a : later ≡ splice area 0 w = d ∙ rw t in
+            (e ∙ rw t (ap Tally.Items (sym z)), ap length a ∙ splice-length area 0 w (omega arith), ap (drop (12 * k)) a ∙ splice-behind area 0 w (12 * k) (omega arith) (omega arith))),
+      )
 
   listed-bad : (x n : ℕ) → r ≡ listedOf (length area) (bad x) → later ≡ listing area (bad x) → x ≡ n → (r ≡ Tally.Refused n) × (later ≡ area)
   unfolding listedOf listing
@@ -99,7 +100,32 @@ listing-refuses s area later r h = listed-by area later r (itemsOf s) (h .answer
 -- ---- the receiver
 pub receiver-keeps : ReceiverKeeps
 unfolding feedOf silenceOf
-receiver-keeps m piece =
-    (λ n. by-test (soundOf m) (λ t. absurd (n (feed-refused m piece ∙ rw t))) (λ t. rw t (refl, refl, refl)),
-    ap (λ (f : Fed). f .eaten) (feed-none m), ap (λ (f : Fed). f .outcome) (feed-none m), ap (λ (f : Fed). f .receiver) (feed-none m),
-    λ n. by-test (soundOf m) (λ t. absurd (n (silence-refused m ∙ rw t))) (λ t. rw t (refl, refl)))
+receiver-keeps m piece = (
+  λ n. by-test (soundOf m) (λ t. absurd (n (feed-refused m piece ∙ rw t))) (λ t. rw t (refl, refl, refl)),
+  ap (λ (f : Fed). f .eaten) (feed-none m),
+  ap (λ (f : Fed). f .outcome) (feed-none m),
+  ap (λ (f : Fed). f .receiver) (feed-none m),
+  λ n. by-test (soundOf m) (λ t. absurd (n (silence-refused m ∙ rw t))) (λ t. rw t (refl, refl)),
+)
+
+-- all is eaten where the last outcome is quiet
+all-eaten : (xs : List ℕ) (n : ℕ) (m : Receiver) → feedFrom n m xs .outcome ≡ Quiet → feedFrom n m xs .eaten ≡ n + length xs
+all-eaten [] n m e = omega arith
+all-eaten (x ∷ xs) n m e =
+    by-test (reportsOf (stepOf m x .outcome))
+    (λ t. loud (stepOf m x .outcome) t (rw t at e))
+    (λ t. let k = all-eaten xs (n + 1) (stepOf m x .receiver) (rw t at e) in rw t (omega arith))
+  where
+    loud : {X : Type 0} (o : Outcome) → reportsOf o ≡ true → o ≡ Quiet → X
+    loud o t q = never (sym (ap reportsOf q) ∙ t)
+
+pub receiver-eats : ReceiverEats
+unfolding feedOf
+receiver-eats m piece z =
+    by-test (soundOf m)
+    (λ t. (eaten-most m piece, λ q. (let k = all-eaten piece 0 m (rw t at q) in rw t (omega arith)), λ l. some piece t l))
+    (λ t. let q : 59 ≡ 0 = rw t at z in absurd (omega arith))
+  where
+    some : (xs : List ℕ) → soundOf m ≡ true → 0 < length xs → 0 < feedOf m xs .eaten
+    some [] t l = absurd (omega arith)
+    some (x ∷ xs) t l = eaten-some m x xs t

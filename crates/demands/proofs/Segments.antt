@@ -1,30 +1,28 @@
 -- What a segment changes, by its answer.
-use Prim.Native.Nat.{ℕ, _+_, _≤_, _<_}
+use Prim.Native.Nat.{ℕ, _+_, _*_, _≤_, _<_}
 use native.Mathlib.Omega.{arith}
 use mathlib.Core.Path.{_≡_, refl, sym, ap, _∙_}
 use mathlib.Core.Logic.{_⊎_, inl, inr}
-use mathlib.Core.Bool.{Bool, true, false}
+use mathlib.Core.Bool.{false}
 use mathlib.Core.List.{List}
 use mathlib.Core.Option.{Option, none, some}
 use lib.Dec.{eqb, ltb}
-use lib.ListN.{length}
+use lib.ListN.{length, set}
 use borrow.Author.Tests.{ltb-false, eqb-true, eqb-false}
 use Rattle.octets.specs.Choice.{both, non, pick-case, pick-cases, by-test}
-use Rattle.messages.specs.Slots.{room, Segment, Slot, Box, boxed, lowest, orElse, isSome, empty, slotAt, openTo, isFree, slotOf}
-use Rattle.messages.specs.Rows.{Answer, Done, kept, lost, freeAt, recordAt, settle, settled, fitted, before, rows, rebuild, forgetNumber, forgotten}
+use Rattle.octets.specs.Splice.{splice}
+use Rattle.messages.specs.Slots.{room, Segment, Slot, Box, boxed, lowest, orElse, isSome, empty, openTo, isFree, slotOf}
+use Rattle.messages.specs.Rows.{Answer, Done, kept, lost, freeAt, recordAt, settle, settled, fitted, before, rows, rebuild}
 use Rattle.messages.specs.Rows.Answer.{refused, taken, completed}
 use Rattle.messages.proofs.Lowest.{lowest-some}
-use Rattle.messages.proofs.Tests.{pick-true, pick-false}
+use Rattle.messages.proofs.Tests.{never, pick-true, pick-false}
 use Rattle.rebuild.specs.View.{keys, view, segmentOf}
 use Rattle.rebuild.specs.Calls as Rebuild
 use Rattle.rebuild.specs.declared.Key.{Key}
-use Rattle.rebuild.specs.declared.Slots.{Slots}
-use Rattle.rebuild.specs.declared.Segment.{Segment as Head}
 use Rattle.rebuild.specs.declared.Step.the-variants.{Refused}
-use Rattle.rebuild.specs.declared.Taken.{Taken}
 use Rattle.rebuild.proofs.Seen.{view-one}
 use Rattle.rebuild.proofs.Giving.{gives-by, taking-60, taking-on}
-use Rattle.demands.specs.Words.{Between, SegmentChanges}
+use Rattle.demands.specs.Words.{Between, inFront, SegmentLaid, SegmentChanges}
 use Rattle.demands.specs.Demands.{SegmentDoes, TakeDoes, FreeDoes}
 
 module _ (g : Segment Key) (b : Box Key) where
@@ -37,37 +35,44 @@ module _ (g : Segment Key) (b : Box Key) where
   loses : (n : ℕ) (o : Option ℕ) → slotOf keys (g .key) (b .slots) ≡ o → Between 54 55 n → Does (lost keys n o b)
   loses n o e h = (refl, inr (h, ap (λ (x : Option ℕ). freeAt keys x (b .slots)) (sym e)))
 
-  settles : (i n : ℕ) → i < length (b .slots) → n + length (g .octets) ≤ room → Does (settle keys g i n b)
-  settles i n l f =
-      pick-case Does (g .mor)
-      (record { slot = l; before = n; total = refl; fits = f; laid = refl; records = refl })
-      (record { slot = l; before = n; total = refl; fits = f; laid = refl; records = refl })
+  settles : (i n : ℕ) → i < length (b .slots) → n ≡ inFront g b i → n + length (g .octets) ≤ room → Does (settle keys g i n b)
+  settles i n l e f = rw e (pick-case Does (g .mor) laid laid)
+    where
+      laid : {t : Slot Key} → SegmentLaid g b i (inFront g b i + length (g .octets)) t (set (b .slots) i t) (splice (b .area) (room * i + inFront g b i) (g .octets))
+      laid = record { slot = l; total = refl; fits = rw e at f; laid = refl; records = refl }
 
-  within : (o : Option ℕ) → slotOf keys (g .key) (b .slots) ≡ o → (i : ℕ) → orElse o (lowest (isFree keys) (b .slots)) ≡ some i → i < length (b .slots)
-  within none e i q = lowest-some (isFree keys) (empty keys) (b .slots) i q .0
-  within (some j) e i q = lowest-some (openTo keys (g .key)) (empty keys) (b .slots) i (e ∙ q) .0
+  -- the slot that a segment goes to: its key's, or for number 0 the lowest free one
+  abbrev Goes : Option ℕ → ℕ → Type 0
+  Goes x n = (i : ℕ) → x ≡ some i → (i < length (b .slots)) × (n ≡ inFront g b i)
 
-  finds : (x : Option ℕ) (n : ℕ) → ((i : ℕ) → x ≡ some i → i < length (b .slots)) → n + length (g .octets) ≤ room → Does (settled keys g x n b)
+  goes : (o : Option ℕ) → slotOf keys (g .key) (b .slots) ≡ o → both (non (eqb (g .number) 0)) (non (isSome o)) ≡ false
+      → Goes (orElse o (lowest (isFree keys) (b .slots))) (before keys g (recordAt keys (b .slots) o))
+  goes none e z i q =
+      (lowest-some (isFree keys) (empty keys) (b .slots) i q .0, by-test (eqb (g .number) 0) (λ t. rw t) (λ t. never (sym (rw t at z))))
+  goes (some j) e z i q = let s : j ≡ i = cc in (lowest-some (openTo keys (g .key)) (empty keys) (b .slots) i (e ∙ q) .0, ap (inFront g b) s)
+
+  finds : (x : Option ℕ) (n : ℕ) → Goes x n → n + length (g .octets) ≤ room → Does (settled keys g x n b)
   finds none n h f = keeps 50 (omega arith, omega arith)
-  finds (some i) n h f = settles i n (h i refl) f
+  finds (some i) n h f = settles i n (h i refl .0) (h i refl .1) f
 
-  fits : (o : Option ℕ) → slotOf keys (g .key) (b .slots) ≡ o → (n : ℕ) → Does (fitted keys g o n b)
-  fits o e n =
+  fits : (o : Option ℕ) → slotOf keys (g .key) (b .slots) ≡ o → (n : ℕ) → Goes (orElse o (lowest (isFree keys) (b .slots))) n → Does (fitted keys g o n b)
+  fits o e n h =
       pick-case Does (both (eqb (g .number) 255) (g .mor)) (loses 55 o e (omega arith, omega arith))
       (pick-cases Does (ltb room (n + length (g .octets))) (λ _. loses 54 o e (omega arith, omega arith)) (λ f.
-      finds (orElse o (lowest (isFree keys) (b .slots))) n (within o e) (ltb-false room (n + length (g .octets)) f)))
+      finds (orElse o (lowest (isFree keys) (b .slots))) n h (ltb-false room (n + length (g .octets)) f)))
 
-  by-rows : (o : Option ℕ) (t : Slot Key) → slotOf keys (g .key) (b .slots) ≡ o → Does (rows keys g o t b)
-  by-rows o t e =
+  by-rows : (o : Option ℕ) → slotOf keys (g .key) (b .slots) ≡ o → Does (rows keys g o (recordAt keys (b .slots) o) b)
+  by-rows o e =
+      let t = recordAt keys (b .slots) o in
       let zeroth = eqb (g .number) 0 in
       let later = both (isSome o) (non zeroth) in
-      pick-case Does (both (non zeroth) (non (isSome o))) (keeps 51 (omega arith, omega arith))
-      (pick-case Does (both later (non (eqb (g .number) (t .next)))) (keeps 52 (omega arith, omega arith))
-      (pick-case Does (both later (non (eqb (g .choice) (t .choice)))) (keeps 53 (omega arith, omega arith)) (fits o e (before keys g t))))
+      pick-cases Does (both (non zeroth) (non (isSome o))) (λ _. keeps 51 (omega arith, omega arith)) (λ z.
+      pick-case Does (both later (non (eqb (g .number) (t .next)))) (keeps 52 (omega arith, omega arith))
+      (pick-case Does (both later (non (eqb (g .choice) (t .choice)))) (keeps 53 (omega arith, omega arith)) (fits o e (before keys g t) (goes o e z))))
 
 pub segment-does : SegmentDoes
 unfolding rebuild
-segment-does g b = by-rows g b (slotOf keys (g .key) (b .slots)) (recordAt keys (b .slots) (slotOf keys (g .key) (b .slots))) refl
+segment-does g b = by-rows g b (slotOf keys (g .key) (b .slots)) refl
 
 -- ---- rebuild::take: its own refusals are 50 to 55, so 60 is the area's alone
 not-sixty : (g : Segment Key) (b : Box Key) (w : Answer) (slots : List (Slot Key)) (area : List ℕ) → SegmentChanges g b w slots area → Rebuild.stepOf w ≡ Refused 60 → ⊥

@@ -1,5 +1,5 @@
 -- A service's refusals: tag numbers first, 43 for a kind and choice without a layout, 40 to 42 else.
-use Prim.Native.Nat.{ℕ, _≤_, _<_}
+use Prim.Native.Nat.{ℕ, _<_}
 use native.Mathlib.Omega.{arith}
 use mathlib.Core.Path.{_≡_, refl, sym, ap, subst, _∙_}
 use mathlib.Core.Logic.{_⊎_, inl, inr}
@@ -7,7 +7,7 @@ use mathlib.Core.List.{List, [], _∷_}
 use mathlib.Core.Bool.{Bool, true, false}
 use lib.Dec.{ltb, eqb}
 use borrow.Author.Tests.{ltb-true, eq-eqb, eqb-true}
-use Rattle.octets.specs.Choice.{pick, pick-case, pick-cases, by-test, both, non}
+use Rattle.octets.specs.Choice.{pick-case, pick-cases, both, non}
 use Rattle.octets.specs.Reading.{oct}
 use Rattle.octets.specs.Numbers.{longForm}
 use Rattle.items.specs.Records.{Rec}
@@ -15,7 +15,7 @@ use Rattle.items.specs.Reading.{Out, itemsOf, counted}
 use Rattle.items.specs.Reading.Out.{good, bad}
 use Rattle.items.specs.declared.Tally.{Tally}
 use Rattle.messages.proofs.Tests.{never, both-left, both-right}
-use Rattle.services.specs.Parts.{Then, is, present, wanted, numberRule, numberOf, objectRule, typeOf, contextNumber, optionalNumber, group, afterGroup, last}
+use Rattle.services.specs.Parts.{Then, is, present, wanted, numberRule, numberOf, objectRule, typeOf, optionalNumber, group, afterGroup, last}
 use Rattle.services.specs.Reading.{targetParts, deviceRule, layoutFor, afterTags, readService}
 use Rattle.services.specs.Reading as reading
 use Rattle.services.specs.Layout.{Pointed, Message}
@@ -27,7 +27,7 @@ use Rattle.services.specs.declared.Service.{Service}
 use Rattle.services.specs.declared.Service.the-variants as Of
 use Rattle.services.specs.declared.Target.{Target}
 use Rattle.services.specs.declared.Span.{Span}
-use Rattle.service_writer.specs.Writing.{kindOf, choiceOf, octetsOf, tooWide, refusalOf, readFault, faultOf}
+use Rattle.service_writer.specs.Writing.{kindOf, choiceOf, octetsOf, tooWide, refusalOf, faultOf}
 use Rattle.demands.specs.Words.{Between}
 use Rattle.demands.specs.Demands.{ServiceNumbers, ServiceWriterNumbers}
 use Rattle.demands.proofs.Numbers.{count-numbers}

@@ -1,17 +1,15 @@
 -- Demand 3 for the collector; every run can be offered by calls that keep their promises.
 use Prim.Native.Nat.{ℕ, _+_, _-_}
 use mathlib.Core.Path.{_≡_, refl, sym, ap, subst, _∙_}
-use mathlib.Core.Bool.{Bool, true, false}
 use mathlib.Core.List.{List, [], _∷_, _++_}
 use mathlib.Core.Option.{Option, none, some}
-use lib.Dec.{eqb}
-use lib.ListN.{length, drop, replicate}
+use lib.ListN.{length, replicate}
 use borrow.Author.Tests.{eq-eqb, eqb-true}
 use Rattle.octets.specs.Choice.{pick, by-test}
 use Rattle.runs.specs.Run.{Run, octs}
 use Rattle.runs.specs.Run.Event.{silence}
 use Rattle.runs.specs.Run.Order.{trunk}
-use Rattle.runs.specs.Offered.{Answer, answer, spoken, Offered}
+use Rattle.runs.specs.Offered.{answer, spoken, Offered}
 use Rattle.runs.specs.Offered.Offered.{over, fed, still, forgot}
 use Rattle.frames.specs.declared.Receiver.{Receiver}
 use Rattle.messages.specs.Slots.{Slot}

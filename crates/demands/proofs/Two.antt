@@ -1,9 +1,9 @@
 -- Demand 2: accepted exactly when, and both round trips.
-use Prim.Native.Nat.{ℕ, _*_, _≤_}
+use Prim.Native.Nat.{ℕ, _≤_}
 use native.Mathlib.Omega.{arith}
-use mathlib.Core.Path.{_≡_, refl, sym, ap, subst, _∙_}
+use mathlib.Core.Path.{_≡_, refl, sym, ap, _∙_}
 use mathlib.Core.Bool.{Bool, true, false}
-use mathlib.Core.List.{List, [], _∷_, _++_}
+use mathlib.Core.List.{List, _++_}
 use lib.ListN.{length, take, drop, length-append, length-drop}
 use lib.Seq.{take-at}
 use Rattle.octets.specs.Choice.{pick, by-test}
@@ -13,25 +13,23 @@ use Rattle.octets.specs.declared.Written.the-variants.{Wrote}
 use Rattle.sums.proofs.Good.{header-exact, data-exact}
 use Rattle.trunk.proofs.Laws.{frames-from}
 use Rattle.npdu.specs.Layout as Network
-use Rattle.npdu.specs.Fault as NetworkFault
 use Rattle.npdu.specs.Read.{readNpdu}
 use Rattle.npdu.proofs.Exact.{npdu-exactly}
 use Rattle.npdu.proofs.Outcome.{next-within}
 use Rattle.npdu.proofs.Written as NetworkWritten
 use Rattle.apdu.specs.Laws.{exact}
 use Rattle.apdu_writer.specs.Trips.{write-read, read-write}
-use Rattle.tags.specs.Layout.{Thing}
 use Rattle.tags.proofs.Exact.{head-sound, head-complete}
 use Rattle.items.specs.Grammar.{encodeAll}
 use Rattle.items.proofs.Exact as Items
 use Rattle.item_writer.proofs.Trips as Trips
 use Rattle.services.specs.Layout.{optional, pointed, thingsOfMessage, encode}
-use Rattle.services.specs.Shows.{pointedOf, messageOf, Shows, ValidFor}
+use Rattle.services.specs.Shows.{pointedOf, messageOf, Shows}
 use Rattle.services.specs.declared.Service.{Service}
 use Rattle.services.specs.declared.Service.the-variants.{ReadProperty, ReadPropertyAck, WriteProperty, WhoIs, IAm, Error}
 use Rattle.services.specs.declared.Target.{Target}
 use Rattle.services.proofs.Exact as Services
-use Rattle.service_writer.specs.Writing.{kindOf, choiceOf, ranked, octetsOf, valueIn, wideTarget, tooWide, readFault, faultOf}
+use Rattle.service_writer.specs.Writing.{kindOf, choiceOf, ranked, octetsOf, wideTarget, tooWide, faultOf}
 use Rattle.service_writer.proofs.Trips as ServiceTrips
 use Rattle.demands.specs.Words.{shownTarget, shownService}
 use Rattle.demands.specs.Demands.{HeaderCheckExact, DataCheckExact, FramesExact, NetworkExact, NetworkWritesBack, NetworkReadsBack, HeadersExact, HeadersWriteBack, HeadersReadBack, TagsExact, ItemsExact, ItemsWriteBack, ItemsReadBack, ServicesExact, ServicesWriteBack, ServicesReadBack}

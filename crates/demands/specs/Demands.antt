@@ -210,6 +210,11 @@ ReceiverKeeps = (m : Receiver) (piece : List ℕ)
     × (feedOf m [] .eaten ≡ 0) × (feedOf m [] .outcome ≡ Quiet) × (feedOf m [] .receiver ≡ m)
     × ((silenceOf m .refused ≡ 0 → ⊥) → (silenceOf m .outcome ≡ Quiet) × (silenceOf m .receiver ≡ m))
 
+-- "Feeding eats a piece's octets through the first that causes a report, else all": no more than are lent, all where nothing is reported, and some where there are some
+abbrev pub ReceiverEats : Type 0
+ReceiverEats = (m : Receiver) (piece : List ℕ) → feedOf m piece .refused ≡ 0
+    → (feedOf m piece .eaten ≤ length piece) × (feedOf m piece .outcome ≡ Quiet → feedOf m piece .eaten ≡ length piece) × (0 < length piece → 0 < feedOf m piece .eaten)
+
 -- the collector's three calls, refused: state, report area and message area stay, and nothing is eaten
 abbrev pub FeedRefused : Type 0
 FeedRefused = (c : Collector) (piece report area : List ℕ) (r : Fed) (report′ area′ : List ℕ) → Feeds c report area piece r report′ area′ → (r .refused ≡ 0 → ⊥)

@@ -3,8 +3,9 @@ use Prim.Native.Nat.{ℕ, _+_, _*_, _≤_, _<_}
 use mathlib.Core.Path.{_≡_}
 use mathlib.Core.Logic.{_↔_, _⊎_}
 use mathlib.Core.Bool.{Bool, true, false}
-use mathlib.Core.List.{List, [], _++_}
+use mathlib.Core.List.{List, _++_}
 use mathlib.Core.Option.{Option, none, some}
+use lib.Dec.{eqb}
 use lib.ListN.{length, drop, set}
 use Rattle.octets.specs.Choice.{pick}
 use Rattle.octets.specs.Splice.{splice}
@@ -79,13 +80,16 @@ abbrev pub SegmentRefused : Segment Key → Box Key → ℕ → List (Slot Key) 
 SegmentRefused g b n slots area =
     (area ≡ b .area) × ((Between 50 53 n × (slots ≡ b .slots)) ⊎ (Between 54 55 n × (slots ≡ freeAt keys (slotOf keys (g .key) (b .slots)) (b .slots))))
 
--- an accepted one lays its octets in slot i behind what that holds, up to n, and nowhere else, and sets that slot's record
+-- "segments' parameters are laid end to end from its first": the octets in front of a segment's in slot i, none where number 0 starts or restarts
+abbrev pub inFront : Segment Key → Box Key → ℕ → ℕ
+inFront g b i = pick (eqb (g .number) 0) 0 (slotAt keys (b .slots) i .held)
+
+-- an accepted one lays its octets in slot i behind those, up to n, and nowhere else, and sets that slot's record
 pub record SegmentLaid (g : Segment Key) (b : Box Key) (i n : ℕ) (record′ : Slot Key) (slots : List (Slot Key)) (area : List ℕ) : Type 0 where
   pub slot : i < length (b .slots)
-  pub before : ℕ
-  pub total : n ≡ before + length (g .octets)
+  pub total : n ≡ inFront g b i + length (g .octets)
   pub fits : n ≤ room
-  pub laid : area ≡ splice (b .area) (room * i + before) (g .octets)
+  pub laid : area ≡ splice (b .area) (room * i + inFront g b i) (g .octets)
   pub records : slots ≡ set (b .slots) i record′
 
 abbrev pub SegmentChanges : Segment Key → Box Key → Answer → List (Slot Key) → List ℕ → Type 0
