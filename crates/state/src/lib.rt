@@ -3,30 +3,45 @@ mod loading;
 mod saving;
 
 use collector::Collector;
+use frames::Link;
+use rebuild::Slots;
 ghost use mathlib.Core.Path.{_≡_};
-ghost use Rattle.state.specs.Calls.{loadOf, Saves};
+ghost use Rattle.state.specs.Calls.{openOf, Saves, layOf};
 
-// What loading answers: 60, 59 or 0 with the state.
-pub struct Loaded {
+// What opening answers: 60, 59 or 0 with link and slots; the store is octets 9 to 509 of the area.
+pub struct Opened {
     pub refused: u8,
-    pub state: Collector,
+    pub link: Link,
+    pub slots: Slots,
 }
 
-// The state that the area's 546 octets are.
-pub fn load(area: &[u8]) -> Loaded
-    ensures { λ r. ⌜ r ≡ loadOf (now (area .entry)) ⌝ }
+// The link and the slots of the area's 546 octets.
+pub fn open(area: &[u8]) -> Opened
+    ensures { λ r. ⌜ r ≡ openOf (now (area .entry)) ⌝ }
 {
     if area.len() != 546 {
         return loading::refused(60);
     }
     if loading::state_good(area) {
-        let c = loading::state_at(area);
-        return Loaded {
+        return Opened {
             refused: 0,
-            state: c,
+            link: loading::link_at(area),
+            slots: loading::slots_at(area),
         };
     }
     loading::refused(59)
+}
+
+// Link and slots laid into an area of 546, the store there as it is; 60 and nothing changes in any other.
+pub fn close(link: Link, slots: Slots, area: &mut [u8]) -> u8
+    ensures { λ r. ⌜ Closes link slots (now (area .entry)) r (now (area .exit)) ⌝ }
+{
+    if area.len() != 546 {
+        return 60;
+    }
+    saving::put_link(link, area);
+    saving::put_slots(slots, area);
+    0
 }
 
 // The state's octets into an area of 546; 60 and nothing changes in any other.
