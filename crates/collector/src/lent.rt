@@ -6,14 +6,14 @@ use frames::Outcome;
 use rebuild::Slots;
 ghost use mathlib.Core.Path.{_≡_};
 ghost use lib.ListN.{length};
-ghost use Rattle.collector.specs.Calls.{Feeds, Stills, Forgets};
-ghost use Rattle.collector.specs.Lent.{unfedBy, quietBy, over, fedOver, fellOver, forgotOver};
+ghost use Rattle.collector.specs.Lent.{Eats, unfedBy, Hushes, quietBy, Frees};
 
-// The answer to a piece: 60, 59 or 0; the octets eaten; whether a report was written.
+// The answer to a piece: 60, 59 or 0; the octets eaten; whether a report was written; whether the slots may have moved.
 pub struct Ate {
     pub refused: u8,
     pub eaten: usize,
     pub reported: bool,
+    pub moved: bool,
     pub link: Link,
     pub slots: Slots,
 }
@@ -39,6 +39,7 @@ fn unfed(link: Link, slots: Slots, number: u8) -> Ate
         refused: number,
         eaten: 0,
         reported: false,
+        moved: false,
         link,
         slots,
     }
@@ -54,7 +55,7 @@ pub fn feed(
     area: &mut [u8],
 ) -> Ate
     requires { ⌜ length (now store) ≡ 501 ⌝ }
-    ensures { λ r. ⌜ Feeds (over link slots (now (store .entry))) (now (report .entry)) (now (area .entry)) (now (piece .entry)) (fedOver r (now (store .exit))) (now (report .exit)) (now (area .exit)) ⌝ }
+    ensures { λ r. ⌜ Eats link slots (now (store .entry)) (now (report .entry)) (now (area .entry)) (now (piece .entry)) r (now (store .exit)) (now (report .exit)) (now (area .exit)) ⌝ }
 {
     if report.len() != 16 {
         return unfed(link, slots, 60);
@@ -76,6 +77,7 @@ pub fn feed(
             refused,
             eaten,
             reported: false,
+            moved: false,
             link,
             slots,
         },
@@ -85,6 +87,7 @@ pub fn feed(
                 refused,
                 eaten,
                 reported: true,
+                moved: false,
                 link,
                 slots,
             }
@@ -92,11 +95,13 @@ pub fn feed(
         Outcome::Frame => {
             let head = link.head;
             let n = frames::length_of(head) as usize;
-            let slots = frame::act(head, &store[..n], slots, report, area);
+            let d = frame::act(head, &store[..n], slots, report, area);
+            let slots = d.slots;
             Ate {
                 refused,
                 eaten,
                 reported: true,
+                moved: d.moved,
                 link,
                 slots,
             }
@@ -117,7 +122,7 @@ fn quiet(link: Link, number: u8) -> Hushed
 
 // The line fell silent.
 pub fn silence(link: Link, slots: Slots, report: &mut [u8]) -> Hushed
-    ensures { λ r. ⌜ ∀s. ⌝ }
+    ensures { λ r. ⌜ Hushes link slots (now (report .entry)) r (now (report .exit)) ⌝ }
 {
     if report.len() != 16 {
         return quiet(link, 60);
@@ -146,6 +151,7 @@ pub fn silence(link: Link, slots: Slots, report: &mut [u8]) -> Hushed
 
 // Frees a slot.
 pub fn forget(link: Link, slots: Slots, s: u8) -> Freed
+    ensures { λ r. ⌜ Frees link slots s r ⌝ }
 {
     let fair = rebuild::sound(slots);
     if !fair {
@@ -156,8 +162,9 @@ pub fn forget(link: Link, slots: Slots, s: u8) -> Freed
         return Freed { number: 59, slots };
     }
     let f = rebuild::forget(slots, s);
+    let slots = f.slots;
     Freed {
         number: f.number,
-        slots: f.slots,
+        slots,
     }
 }

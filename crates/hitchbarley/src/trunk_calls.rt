@@ -42,8 +42,11 @@ pub extern "C" fn hb_feed(
     let slots = o.slots;
     let f = lent::feed(link, slots, &mut state[9..510], piece, report, area);
     let link = f.link;
-    let slots = f.slots;
-    state::close(link, slots, state);
+    state::lay_link(link, state);
+    if f.moved {
+        let slots = f.slots;
+        state::lay_slots(slots, state);
+    }
     *eaten = f.eaten;
     *reported = f.reported as u8;
     f.refused
@@ -67,7 +70,7 @@ pub extern "C" fn hb_silence(state: &mut [u8], report: &mut [u8], reported: &mut
     let slots = o.slots;
     let f = lent::silence(link, slots, report);
     let link = f.link;
-    state::close(link, slots, state);
+    state::lay_link(link, state);
     *reported = f.reported as u8;
     f.refused
 }
@@ -86,6 +89,6 @@ pub extern "C" fn hb_forget(state: &mut [u8], slot: u8) -> u8
     let slots = o.slots;
     let f = lent::forget(link, slots, slot);
     let slots = f.slots;
-    state::close(link, slots, state);
+    state::lay_slots(slots, state);
     f.number
 }

@@ -32,14 +32,24 @@ pub fn open(area: &[u8]) -> Opened
     loading::refused(59)
 }
 
-// Link and slots laid into an area of 546, the store there as it is; 60 and nothing changes in any other.
-pub fn close(link: Link, slots: Slots, area: &mut [u8]) -> u8
-    ensures { λ r. ⌜ Closes link slots (now (area .entry)) r (now (area .exit)) ⌝ }
+// A link laid over the one in an area of 546; 60 and nothing changes in any other.
+pub fn lay_link(link: Link, area: &mut [u8]) -> u8
+    ensures { λ r. ⌜ Lays 0 (linkOctets link) (now (area .entry)) r (now (area .exit)) ⌝ }
 {
     if area.len() != 546 {
         return 60;
     }
     saving::put_link(link, area);
+    0
+}
+
+// Slots laid over those in an area of 546; 60 and nothing changes in any other.
+pub fn lay_slots(slots: Slots, area: &mut [u8]) -> u8
+    ensures { λ r. ⌜ Lays 510 (slotsOctets (slots .slots)) (now (area .entry)) r (now (area .exit)) ⌝ }
+{
+    if area.len() != 546 {
+        return 60;
+    }
     saving::put_slots(slots, area);
     0
 }
