@@ -1,4 +1,4 @@
-// A state as octets of a lent area: loaded from there, and saved there.
+// A state as octets of a lent area: its link and slots opened from there and laid back, its frame store left in place; a whole state saved there.
 mod loading;
 mod saving;
 
@@ -6,7 +6,8 @@ use collector::Collector;
 use frames::Link;
 use rebuild::Slots;
 ghost use mathlib.Core.Path.{_≡_};
-ghost use Rattle.state.specs.Calls.{openOf, Saves, layOf};
+ghost use Rattle.state.specs.Layout.{linkOctets, slotsOctets};
+ghost use Rattle.state.specs.Calls.{openOf, Lays, Saves};
 
 // What opening answers: 60, 59 or 0 with link and slots; the store is octets 9 to 509 of the area.
 pub struct Opened {
@@ -23,10 +24,12 @@ pub fn open(area: &[u8]) -> Opened
         return loading::refused(60);
     }
     if loading::state_good(area) {
+        let link = loading::link_at(area);
+        let slots = loading::slots_at(area);
         return Opened {
             refused: 0,
-            link: loading::link_at(area),
-            slots: loading::slots_at(area),
+            link,
+            slots,
         };
     }
     loading::refused(59)
@@ -34,7 +37,7 @@ pub fn open(area: &[u8]) -> Opened
 
 // A link laid over the one in an area of 546; 60 and nothing changes in any other.
 pub fn lay_link(link: Link, area: &mut [u8]) -> u8
-    ensures { λ r. ⌜ Lays 0 (linkOctets link) (now (area .entry)) r (now (area .exit)) ⌝ }
+    ensures { λ r. ⌜ Lays 0 9 (linkOctets link) (now (area .entry)) r (now (area .exit)) ⌝ }
 {
     if area.len() != 546 {
         return 60;
@@ -45,7 +48,7 @@ pub fn lay_link(link: Link, area: &mut [u8]) -> u8
 
 // Slots laid over those in an area of 546; 60 and nothing changes in any other.
 pub fn lay_slots(slots: Slots, area: &mut [u8]) -> u8
-    ensures { λ r. ⌜ Lays 510 (slotsOctets (slots .slots)) (now (area .entry)) r (now (area .exit)) ⌝ }
+    ensures { λ r. ⌜ Lays 510 36 (slotsOctets (slots .slots)) (now (area .entry)) r (now (area .exit)) ⌝ }
 {
     if area.len() != 546 {
         return 60;

@@ -1,4 +1,4 @@
-// The state that octets are, and whether they are one.
+// The link and the slots that octets hold, and whether they are a state.
 use crate::Opened;
 use frames::Link;
 use frames::Phase;
@@ -9,19 +9,20 @@ ghost use mathlib.Core.Path.{_≡_};
 ghost use Prim.Native.Nat.{_+_, _≤_};
 ghost use lib.ListN.{length, take, drop};
 ghost use Rattle.collector.specs.Calls.{freshCollector};
-ghost use Rattle.state.specs.Calls.{phaseGood, slotsGood, stateGood, phaseAt, slotAt, stateAt, loaded};
+ghost use Rattle.state.specs.Calls.{phaseGood, slotsGood, stateGood, phaseAt, slotAt, stateAt, loaded, openedAs};
 
-// A refusal, beside the fresh state.
+// A refusal, beside the fresh link and slots.
 pub fn refused(n: u8) -> Opened
-    ensures { λ r. ⌜ r ≡ opened n freshLink fresh ⌝ }
+    ensures { λ r. ⌜ r ≡ openedAs (loaded n freshCollector) ⌝ }
 {
+    let link = Link {
+        phase: Phase::Hunting,
+        head: [0; 5],
+        first: 0,
+    };
     Opened {
         refused: n,
-        link: Link {
-            phase: Phase::Hunting,
-            head: [0; 5],
-            first: 0,
-        },
+        link,
         slots: Slots::FREE,
     }
 }

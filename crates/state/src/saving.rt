@@ -5,11 +5,10 @@ use frames::Link;
 use rebuild::Slot;
 use rebuild::Slots;
 ghost use mathlib.Core.Path.{_≡_};
-ghost use mathlib.Core.List.{_∷_, _++_};
 ghost use Prim.Native.Nat.{_+_, _≤_};
 ghost use lib.ListN.{length};
 ghost use Rattle.octets.specs.Splice.{splice};
-ghost use Rattle.state.specs.Layout.{phaseOctets, slotOctets, slotsOctets, stateOctets};
+ghost use Rattle.state.specs.Layout.{phaseOctets, linkOctets, slotOctets, slotsOctets, stateOctets};
 
 // Phase and count.
 fn phase_octets(p: Phase) -> [u8; 3]
