@@ -33,7 +33,7 @@ pub extern "C" fn hb_feed(
     if area.len() != 65536 {
         return 60;
     }
-    let o = state::open(state);
+    let o = state::lift(state);
     let n = o.refused;
     if n != 0 {
         return n;
@@ -43,12 +43,13 @@ pub extern "C" fn hb_feed(
     let f = lent::feed(link, slots, &mut state[9..510], piece, report, area);
     let link = f.link;
     state::lay_link(link, state);
+    *eaten = f.eaten;
+    *reported = f.reported as u8;
     if f.moved {
         let slots = f.slots;
         state::lay_slots(slots, state);
+        return f.refused;
     }
-    *eaten = f.eaten;
-    *reported = f.reported as u8;
     f.refused
 }
 
@@ -61,7 +62,7 @@ pub extern "C" fn hb_silence(state: &mut [u8], report: &mut [u8], reported: &mut
     if report.len() != 16 {
         return 60;
     }
-    let o = state::open(state);
+    let o = state::lift(state);
     let n = o.refused;
     if n != 0 {
         return n;
@@ -80,7 +81,7 @@ pub extern "C" fn hb_silence(state: &mut [u8], report: &mut [u8], reported: &mut
 pub extern "C" fn hb_forget(state: &mut [u8], slot: u8) -> u8
     ensures { λ r. ⌜ Forgets (now (state .entry)) slot r (now (state .exit)) ⌝ }
 {
-    let o = state::open(state);
+    let o = state::lift(state);
     let n = o.refused;
     if n != 0 {
         return n;

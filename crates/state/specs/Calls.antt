@@ -1,4 +1,4 @@
--- The state that a lent area is, its link and slots opened and laid there, and a whole state saved there. "60, then 59": an area of another size is
+-- The state that a lent area is, its link and slots lifted and laid there, and a whole state saved there. "60, then 59": an area of another size is
 -- 60, octets that are no state's are 59.
 use Prim.Native.Nat.{ℕ, _+_, _*_}
 use mathlib.Core.Path.{_≡_}
@@ -14,7 +14,7 @@ use Rattle.frames.specs.declared.Phase.the-variants.{Hunting, Preamble, Header,
 use Rattle.rebuild.specs.declared.Slot.{Slot}
 use Rattle.collector.specs.declared.Collector.{Collector}
 use Rattle.collector.specs.Calls.{freshCollector}
-use Rattle.state.specs.declared.Opened.{Opened}
+use Rattle.state.specs.declared.Lifted.{Lifted}
 use Rattle.state.specs.Layout.{stateSize, stateOctets}
 
 -- ---- which octets are no state's: a phase above 3, a count above what the phase has, a slot's first octet above 1
@@ -69,12 +69,12 @@ loadOf o = pick (eqb (length o) stateSize) (pick (stateGood o) (loaded 0 (stateA
 abbrev pub Loads : List ℕ → Collector → Type 0
 Loads o c = loadOf o ≡ loaded 0 c
 
--- ---- opening: link and slots of what the area is loaded as; its frame store stays in octets 9 to 509
-abbrev pub openedAs : Loaded → Opened
-openedAs l = record { refused = l .refused; link = l .state .receiver .link; slots = l .state .slots }
+-- ---- lifting: link and slots of what the area is loaded as; its frame store stays in octets 9 to 509
+abbrev pub liftedAs : Loaded → Lifted
+liftedAs l = record { refused = l .refused; link = l .state .receiver .link; slots = l .state .slots }
 
-unfoldable pub openOf : List ℕ → Opened
-openOf o = openedAs (loadOf o)
+unfoldable pub liftOf : List ℕ → Lifted
+liftOf o = liftedAs (loadOf o)
 
 -- ---- laying a part of n octets over the one at its place: 0, or 60 and the area is as it was
 pub record Lays (at n : ℕ) (xs area : List ℕ) (r : ℕ) (later : List ℕ) : Type 0 where

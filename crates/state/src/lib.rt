@@ -1,4 +1,4 @@
-// A state as octets of a lent area: its link and slots opened from there and laid back, its frame store left in place; a whole state saved there.
+// A state as octets of a lent area: its link and slots lifted from there and laid back, its frame store left in place; a whole state saved there.
 mod loading;
 mod saving;
 
@@ -7,18 +7,18 @@ use frames::Link;
 use rebuild::Slots;
 ghost use mathlib.Core.Path.{_≡_};
 ghost use Rattle.state.specs.Layout.{linkOctets, slotsOctets};
-ghost use Rattle.state.specs.Calls.{openOf, Lays, Saves};
+ghost use Rattle.state.specs.Calls.{liftOf, Lays, Saves};
 
-// What opening answers: 60, 59 or 0 with link and slots; the store is octets 9 to 509 of the area.
-pub struct Opened {
+// What lifting answers: 60, 59 or 0 with link and slots; the store stays in octets 9 to 509 of the area.
+pub struct Lifted {
     pub refused: u8,
     pub link: Link,
     pub slots: Slots,
 }
 
-// The link and the slots of the area's 546 octets.
-pub fn open(area: &[u8]) -> Opened
-    ensures { λ r. ⌜ r ≡ openOf (now (area .entry)) ⌝ }
+// The link and the slots that the area's 546 octets hold.
+pub fn lift(area: &[u8]) -> Lifted
+    ensures { λ r. ⌜ r ≡ liftOf (now (area .entry)) ⌝ }
 {
     if area.len() != 546 {
         return loading::refused(60);
@@ -26,7 +26,7 @@ pub fn open(area: &[u8]) -> Opened
     if loading::state_good(area) {
         let link = loading::link_at(area);
         let slots = loading::slots_at(area);
-        return Opened {
+        return Lifted {
             refused: 0,
             link,
             slots,

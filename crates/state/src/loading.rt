@@ -1,5 +1,5 @@
 // The link and the slots that octets hold, and whether they are a state.
-use crate::Opened;
+use crate::Lifted;
 use frames::Link;
 use frames::Phase;
 use rebuild::Key;
@@ -9,18 +9,18 @@ ghost use mathlib.Core.Path.{_≡_};
 ghost use Prim.Native.Nat.{_+_, _≤_};
 ghost use lib.ListN.{length, take, drop};
 ghost use Rattle.collector.specs.Calls.{freshCollector};
-ghost use Rattle.state.specs.Calls.{phaseGood, slotsGood, stateGood, phaseAt, slotAt, stateAt, loaded, openedAs};
+ghost use Rattle.state.specs.Calls.{phaseGood, slotsGood, stateGood, phaseAt, slotAt, stateAt, loaded, liftedAs};
 
 // A refusal, beside the fresh link and slots.
-pub fn refused(n: u8) -> Opened
-    ensures { λ r. ⌜ r ≡ openedAs (loaded n freshCollector) ⌝ }
+pub fn refused(n: u8) -> Lifted
+    ensures { λ r. ⌜ r ≡ liftedAs (loaded n freshCollector) ⌝ }
 {
     let link = Link {
         phase: Phase::Hunting,
         head: [0; 5],
         first: 0,
     };
-    Opened {
+    Lifted {
         refused: n,
         link,
         slots: Slots::FREE,

@@ -1,12 +1,12 @@
-use Rattle.state.specs.Calls.{loadOf, openOf}
+use Rattle.state.specs.Calls.{loadOf, liftOf}
 use borrow.Author.Tests.{eq-eqb, ne-eqb}
 use borrow.Author.Needs.{needs}
-use Rattle.state.proofs.open.Statement.{statement}
-use Rattle.state.proofs.open.Tie as tie
+use Rattle.state.proofs.lift.Statement.{statement}
+use Rattle.state.proofs.lift.Tie as tie
 
-pub open-spec : {M : Type 1} → statement M
-unfolding openOf loadOf
-open-spec =
+pub lift-spec : {M : Type 1} → statement M
+unfolding liftOf loadOf
+lift-spec =
     tie.close
     (tie.spec
     (λ c κs. search needs)
