@@ -1,5 +1,7 @@
 /* Hitchbarley: a BACnet listener for MS/TP trunks. Link with target/staticlib/libhitchbarley.a, which `rt staticlib hitchbarley` writes (x86-64).
-   A slice is a pointer and then its length. Every area is lent for the call alone; nothing is kept and nothing allocated. On a refusal no area changes. */
+   A slice is a pointer, which is not null, and then its length. Every area is lent for the call alone, and no two areas of a call overlap; nothing is kept
+   and nothing allocated. Every call but the check sums answers 0 or the number of a refusal. On a refusal no area changes, and every number given back is 0.
+   What each call promises is proved; its statement stands in crates/hitchbarley/src, with the definitions in specs. */
 #ifndef HITCHBARLEY_H
 #define HITCHBARLEY_H
 #include <stddef.h>
@@ -9,16 +11,79 @@ enum {
     HB_STATE = 546,  /* octets of a trunk's state; crates/state/specs/Layout.antt has the layout */
     HB_REPORT = 16,  /* octets of a report */
     HB_AREA = 65536, /* octets of the message area: four slots of 16,384 */
-    HB_NOT_OPEN = 56, /* forgetting a slot that is not open, or above 3 */
-    HB_NO_STATE = 59, /* the state's octets are no state, or one that no run gives */
-    HB_NO_AREA = 60   /* an area of another size */
+    HB_NPDU = 29,    /* octets of a network header's record */
+    HB_APDU = 12,    /* octets of an APDU header's record */
+    HB_ITEM = 12,    /* octets of an item's record */
+    HB_SERVICE = 26  /* octets of a service's record */
 };
+
+/* The numbers of refusals. */
+enum {
+    /* damage, in octet 1 of a report of kind 2 */
+    HB_HEADER_CHECK = 1, /* bad header check */
+    HB_LENGTH = 2,       /* length above 501 */
+    HB_DATA_CHECK = 3,   /* bad data check */
+    HB_SILENCE = 4,      /* silence within header or data */
+
+    /* network header */
+    HB_NPDU_ENDS = 10,    /* ends early */
+    HB_NPDU_VERSION = 11, /* version not 1 */
+    HB_NPDU_CONTROL = 12, /* bit 6 or 4 set; to write, a priority above 3 */
+    HB_NPDU_ADDRESS = 13, /* DLEN above 7, SLEN 0 or above 7 */
+    HB_NPDU_NETWORK = 14, /* DNET 0, SNET 0 or 65535 */
+
+    /* APDU header */
+    HB_APDU_ENDS = 20, /* ends early */
+    HB_APDU_TYPE = 21, /* type 8 to 15; to write, above 7 */
+    HB_APDU_BITS = 22, /* zero bit set, or MOR without SEG */
+    HB_APDU_SIZE = 23, /* size code above 5, or window not 1 to 127 */
+    HB_APDU_OVER = 24, /* octets left over */
+
+    /* tag items */
+    HB_ITEM_ENDS = 30,     /* item ends early */
+    HB_ITEM_NUMBER = 31,   /* extended number below 15 or 255; application number above 12 */
+    HB_ITEM_FORM = 32,     /* not shortest; application 6 or 7; boolean 2 to 5 */
+    HB_ITEM_LENGTH = 33,   /* contents length wrong for its type, or over 16,384 */
+    HB_ITEM_CONTENTS = 34, /* contents rule broken */
+    HB_ITEM_CLOSING = 35,  /* closing tag without the same number innermost */
+    HB_ITEM_OPEN = 36,     /* end with a group open */
+    HB_ITEM_DEPTH = 37,    /* opening with 16 open */
+    HB_ITEM_COUNT = 38,    /* a 2,049th item begins */
+    HB_ITEM_OCTETS = 39,   /* over 16,384 parameter octets */
+
+    /* services */
+    HB_SERVICE_ITEM = 40,   /* next item missing, or of another kind or number */
+    HB_SERVICE_VALUE = 41,  /* wrong length, a longer form than needed, or out of range; to write, a field too wide */
+    HB_SERVICE_OVER = 42,   /* an item after the last */
+    HB_SERVICE_CHOICE = 43, /* choice not built for that PDU */
+
+    /* rebuilding, in octet 1 of a report of kind 6 */
+    HB_NO_SLOT = 50,   /* number 0, key not open, no slot free */
+    HB_NOT_BEGUN = 51, /* number not 0 and key not open */
+    HB_NOT_NEXT = 52,  /* key open: not the next number */
+    HB_CHOICE = 53,    /* key open: choice differs */
+    HB_TOO_LONG = 54,  /* would pass 16,384 octets; frees the slot */
+    HB_TOO_MANY = 55,  /* number 255 with MOR; frees the slot */
+    HB_NOT_OPEN = 56,  /* forgetting a slot that is not open, or above 3 */
+
+    /* what is lent */
+    HB_NO_STATE = 59,  /* the state's octets are no state, or one that no run gives */
+    HB_NO_AREA = 60,   /* a state, report, message or record area of another size */
+    HB_SMALL = 61,     /* output area smaller than the result */
+    HB_NO_READING = 62 /* records that are the reading of no octets */
+};
+
+/* ---- a trunk ---- */
 
 /* Makes a fresh state: 0 or 60. */
 uint8_t hb_fresh(uint8_t *state, size_t state_len);
 
 /* Eats a piece's octets through the first that causes a report, else all: 0, 60 or 59. *eaten octets were eaten; *reported is 1 where a report was
-   written. Offer the rest of the piece again. */
+   written. Offer the rest of the piece again. A report:
+     0  kind     1  number of a damage or refusal     2  frame type     3  destination     4  source     5  first APDU octet     6  invoke ID     7  slot
+     8 - 11  length, high octet first     12  service choice     13 - 15  zero
+   Kinds: 1 frame of another type than 5 and 6; 2 damage; 3 unsegmented APDU; 4 segment with MOR taken; 5 message complete, its octets at 16384 times
+   the slot in the message area until the next call; 6 refused; 7 network layer message. */
 uint8_t hb_feed(uint8_t *state, size_t state_len, const uint8_t *piece, size_t piece_len, uint8_t *report, size_t report_len, uint8_t *area, size_t area_len,
     size_t *eaten, uint8_t *reported);
 
@@ -28,8 +93,82 @@ uint8_t hb_silence(uint8_t *state, size_t state_len, uint8_t *report, size_t rep
 /* Frees a slot: 0, 60, 59 or 56. */
 uint8_t hb_forget(uint8_t *state, size_t state_len, uint8_t slot);
 
+/* ---- check sums ---- */
+
 /* The check octet of a header's five octets; the check of data octets, sent low octet first. */
 uint8_t hb_header_check(const uint8_t *head, size_t head_len);
 uint16_t hb_data_check(const uint8_t *payload, size_t payload_len);
+
+/* The same in parts: the register after these octets. A header's begins with FF hex, data's with FFFF; after a good header with its check octet it is 55,
+   after good data with both check octets F0B8. The check is the complement of the register. */
+uint8_t hb_header_run(uint8_t reg, const uint8_t *part, size_t part_len);
+uint16_t hb_data_run(uint16_t reg, const uint8_t *part, size_t part_len);
+
+/* ---- headers ---- */
+
+/* The network header at the front of these octets: 0, 60 or 10 to 14; *next is the place after it. Its record, where flags are 1 or 0 and numbers of
+   two octets have the high one first:
+     0  network message     1  destination present     2  source present     3  reply expected     4  priority
+     5 - 6  DNET     7  DLEN     8 - 14  DADR     15 - 16  SNET     17  SLEN     18 - 24  SADR
+     25  hop count     26  message type     27 - 28  vendor
+   Fields of an absent part, and address octets past the length, are read as 0. */
+uint8_t hb_npdu_read(const uint8_t *octets, size_t octets_len, uint8_t *fields, size_t fields_len, size_t *next);
+
+/* The octets of the header that a record is: 0, 60, 12, 14, 13 (the first field in octet order that breaks a rule) or 61; *wrote octets were written.
+   Any flag but 0 is set; fields of an absent part are not looked at. */
+uint8_t hb_npdu_write(const uint8_t *fields, size_t fields_len, uint8_t *out, size_t out_len, size_t *wrote);
+
+/* The header of an APDU: 0, 60 or 20 to 24; *next is the place where its parameters begin. Its record:
+     0  PDU type, 0 to 7     1  SEG     2  MOR     3  SA     4  NAK     5  SRV (1 or 0 each)
+     6  size code     7  invoke ID     8  number     9  window     10  service choice     11  reason
+   What the kind of PDU lacks is read as 0. Types: 0 confirmed request, 1 unconfirmed request, 2 simple ack, 3 complex ack, 4 segment ack, 5 error,
+   6 reject, 7 abort. */
+uint8_t hb_apdu_read(const uint8_t *octets, size_t octets_len, uint8_t *fields, size_t fields_len, size_t *next);
+
+/* The octets of the header that a record is: 0, 60, 21, 22, 23 or 61; *wrote octets were written. What the kind of PDU lacks is not looked at. */
+uint8_t hb_apdu_write(const uint8_t *fields, size_t fields_len, uint8_t *out, size_t out_len, size_t *wrote);
+
+/* ---- tag items ---- */
+
+/* How many items the octets are: 0 or 30 to 39. */
+uint8_t hb_items_count(const uint8_t *octets, size_t octets_len, size_t *count);
+
+/* The items' records, one after the other, and their count: 0, 30 to 39 or 61. A record:
+     0  kind (0 application, 1 context, 2 opening, 3 closing)     1  number     2  depth     3  boolean value, else 0
+     4 - 7  place of the contents, the octet after the tag     8 - 11  their length, high octet first both */
+uint8_t hb_items_list(const uint8_t *octets, size_t octets_len, uint8_t *listed, size_t listed_len, size_t *count);
+
+/* The place after the item at a place, and after its whole group where it opens one: 0 or 30 to 38. */
+uint8_t hb_item_next(const uint8_t *octets, size_t octets_len, size_t at, size_t *next);
+
+/* The reader's step, one item with its whole group: the record, at depth 0, of the item or the group's opening at a place, and the place after it: 0, 60
+   or 30 to 38. At the end, and past it, 0 with *next 0 and no record: no step else answers a place of 0. */
+uint8_t hb_item_step(const uint8_t *octets, size_t octets_len, size_t at, uint8_t *item, size_t item_len, size_t *next);
+
+/* The octets of the items that records name in a source: 0, 62 or 61; *wrote octets were written. The place of a record with length 0 is not looked at. */
+uint8_t hb_items_write(const uint8_t *listed, size_t listed_len, const uint8_t *source, size_t source_len, uint8_t *out, size_t out_len, size_t *wrote);
+
+/* ---- services ---- */
+
+/* The parameters of a PDU of this type and service choice: 0, 60, 30 to 39, 43 or 40 to 42. The record, high octets first:
+     octets    ReadProperty, its ack, WriteProperty    Who-Is            I-Am            Error
+     0         0, 1, 2                                 3                 4               5
+     1         index present (1 or 0)                  limits present    segmentation
+     2 -  3    object type                                               vendor
+     4 -  7    instance                                low               instance        class
+     8 - 11    property                                high              longest         code
+    12 - 15    index
+    16 - 19    place of the value in the parameters, without its group's tags: the ack and WriteProperty
+    20 - 23    length of the value: the same
+    24         priority present (1 or 0): WriteProperty
+    25         priority: WriteProperty
+   Type and choice: ReadProperty 0 and 12, its ack 3 and 12, WriteProperty 0 and 15, Who-Is 1 and 8, I-Am 1 and 0, Error 5 and 12 or 15. What a service
+   lacks is read as 0. */
+uint8_t hb_service_read(uint8_t kind, uint8_t choice, const uint8_t *params, size_t params_len, uint8_t *fields, size_t fields_len);
+
+/* The parameters of the service that a record is, with the value's octets between the tags of its group: 0, 60, 43 for a first octet above 5, 41 for a
+   field too wide, else the number that reading the output gives, or 61; *wrote octets were written. What a service lacks, and the place and length of the
+   value, are not looked at. */
+uint8_t hb_service_write(const uint8_t *fields, size_t fields_len, const uint8_t *value, size_t value_len, uint8_t *out, size_t out_len, size_t *wrote);
 
 #endif

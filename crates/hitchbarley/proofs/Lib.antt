@@ -1,1 +1,6 @@
 pub mod Passed
+pub mod Answered
+pub mod Headers
+pub mod Items
+pub mod Services
+pub mod Trips

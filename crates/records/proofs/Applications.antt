@@ -1,7 +1,9 @@
 -- The APDU header's record: its size, its type, and what is read back of it.
+use Prim.Native.Nat.{_≤_}
 use mathlib.Core.Path.{_≡_, refl}
-use lib.ListN.{length, getD}
-use Rattle.apdu.specs.Fields.{kindOf}
+use lib.ListN.{length}
+use lib.Dec.{lit≤}
+use Rattle.octets.specs.Reading.{oct}
 use Rattle.apdu.specs.declared.Pdu.{Pdu}
 use Rattle.apdu.specs.declared.Pdu.the-variants.{Request, Unconfirmed, SimpleAck, ComplexAck, SegmentAck, Error, Reject, Abort}
 use Rattle.records.specs.Flag.{flag-back}
@@ -17,15 +19,16 @@ apdu-size (Error q) = refl
 apdu-size (Reject q) = refl
 apdu-size (Abort q) = refl
 
-pub apdu-type : (p : Pdu) → getD (apduRecord p) 0 0 ≡ kindOf p
-apdu-type (Request q) = refl
-apdu-type (Unconfirmed q) = refl
-apdu-type (SimpleAck q) = refl
-apdu-type (ComplexAck q) = refl
-apdu-type (SegmentAck q) = refl
-apdu-type (Error q) = refl
-apdu-type (Reject q) = refl
-apdu-type (Abort q) = refl
+-- its type is 0 to 7
+pub apdu-type-most : (p : Pdu) → oct (apduRecord p) 0 ≤ 7
+apdu-type-most (Request q) = lit≤ tt
+apdu-type-most (Unconfirmed q) = lit≤ tt
+apdu-type-most (SimpleAck q) = lit≤ tt
+apdu-type-most (ComplexAck q) = lit≤ tt
+apdu-type-most (SegmentAck q) = lit≤ tt
+apdu-type-most (Error q) = lit≤ tt
+apdu-type-most (Reject q) = lit≤ tt
+apdu-type-most (Abort q) = lit≤ tt
 
 -- a header's record is read as that header
 pub apdu-back : (p : Pdu) → apduAt (apduRecord p) ≡ p

@@ -1,35 +1,16 @@
+use Rattle.hitchbarley.proofs.Headers.{npdu-not, npdu-good}
+use Rattle.hitchbarley.proofs.Answered.{fills-to-other}
 use borrow.Author.Needs.{needs}
 use Rattle.hitchbarley.proofs.header_calls.hb_npdu_read.Statement.{statement}
 use Rattle.hitchbarley.proofs.header_calls.hb_npdu_read.Tie as tie
-use Rattle.hitchbarley.proofs.header_calls.hb_npdu_read.Reads as reads
-use Rattle.hitchbarley.proofs.header_calls.hb_npdu_read.Lts as lts
-use Rattle.npdu.proofs.read.Reads as read-reads
-use Rattle.records.proofs.network.put.Reads as put-reads
-
--- src/header_calls.rt:21:9
-returns : tie.Need-returns
-returns c = ?
-
--- src/header_calls.rt:23:9
-read-requires : tie.Need-read-requires
-read-requires c κs = search needs
-
--- src/header_calls.rt:26:9
-returns-2 : tie.Need-returns-2
-returns-2 c = ?
-
--- src/header_calls.rt:29:5
-put-requires : tie.Need-put-requires
-put-requires c κs = search needs
-
--- src/header_calls.rt:15:1
-same-length : tie.Need-same-length
-same-length c = search needs
-
--- src/header_calls.rt:15:1
-returns-3 : tie.Need-returns-3
-returns-3 c = ?
 
 pub hb-npdu-read-spec : {M : Type 1} → statement M
 hb-npdu-read-spec =
-    tie.close (tie.spec returns read-requires returns-2 put-requires same-length returns-3)
+    tie.close
+    (tie.spec
+    (λ c. fills-to-other 29 _ _ _ _ _ (c .if1 .taken))
+    (λ c κs. search needs)
+    (λ c. npdu-not _ _ (c .before .read .result) (c .before .read .ensures) (c .before .before .if1 .left) (c .if2 .taken))
+    (λ c κs. search needs)
+    (λ c. search needs)
+    (λ c. npdu-good _ _ (c .before .before .before .before .before .before .read .result) (c .before .before .before .before .before .before .read .ensures) (c .before .before .before .before .before .before .before .if1 .left) (c .before .before .before .before .before .if2 .left) (c .before .before .put .ensures)))
