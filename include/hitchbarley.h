@@ -1,7 +1,7 @@
 /* Hitchbarley: a BACnet listener for MS/TP trunks. Link with target/staticlib/libhitchbarley.a, which `rt staticlib hitchbarley` writes (x86-64).
-   A slice is a pointer and then its length, of which a length of 0 goes with any pointer that is not null. Every area is lent for the call alone; nothing
-   is kept and nothing allocated. Areas of one call do not overlap. A call answers 0 or the number of a refusal. On a refusal no area changes, and every
-   number given back is 0. */
+   A slice is a pointer, which is not null, and then its length. Every area is lent for the call alone, and no two areas of a call overlap; nothing is kept
+   and nothing allocated. Every call but the check sums answers 0 or the number of a refusal. On a refusal no area changes, and every number given back is 0.
+   What each call promises is proved; its statement stands in crates/hitchbarley/src, with the definitions in specs. */
 #ifndef HITCHBARLEY_H
 #define HITCHBARLEY_H
 #include <stddef.h>
@@ -13,7 +13,8 @@ enum {
     HB_AREA = 65536, /* octets of the message area: four slots of 16,384 */
     HB_NPDU = 29,    /* octets of a network header's record */
     HB_APDU = 12,    /* octets of an APDU header's record */
-    HB_ITEM = 12     /* octets of an item's record */
+    HB_ITEM = 12,    /* octets of an item's record */
+    HB_SERVICE = 26  /* octets of a service's record */
 };
 
 /* The numbers of refusals. */
@@ -98,6 +99,11 @@ uint8_t hb_forget(uint8_t *state, size_t state_len, uint8_t slot);
 uint8_t hb_header_check(const uint8_t *head, size_t head_len);
 uint16_t hb_data_check(const uint8_t *payload, size_t payload_len);
 
+/* The same in parts: the register after these octets. A header's begins with FF hex, data's with FFFF; after a good header with its check octet it is 55,
+   after good data with both check octets F0B8. The check is the complement of the register. */
+uint8_t hb_header_run(uint8_t reg, const uint8_t *part, size_t part_len);
+uint16_t hb_data_run(uint16_t reg, const uint8_t *part, size_t part_len);
+
 /* ---- headers ---- */
 
 /* The network header at the front of these octets: 0, 60 or 10 to 14; *next is the place after it. Its record, where flags are 1 or 0 and numbers of
@@ -135,7 +141,34 @@ uint8_t hb_items_list(const uint8_t *octets, size_t octets_len, uint8_t *listed,
 /* The place after the item at a place, and after its whole group where it opens one: 0 or 30 to 38. */
 uint8_t hb_item_next(const uint8_t *octets, size_t octets_len, size_t at, size_t *next);
 
+/* The reader's step, one item with its whole group: the record, at depth 0, of the item or the group's opening at a place, and the place after it: 0, 60
+   or 30 to 38. At the end, and past it, 0 with *next 0 and no record: no step else answers a place of 0. */
+uint8_t hb_item_step(const uint8_t *octets, size_t octets_len, size_t at, uint8_t *item, size_t item_len, size_t *next);
+
 /* The octets of the items that records name in a source: 0, 62 or 61; *wrote octets were written. The place of a record with length 0 is not looked at. */
 uint8_t hb_items_write(const uint8_t *listed, size_t listed_len, const uint8_t *source, size_t source_len, uint8_t *out, size_t out_len, size_t *wrote);
+
+/* ---- services ---- */
+
+/* The parameters of a PDU of this type and service choice: 0, 60, 30 to 39, 43 or 40 to 42. The record, high octets first:
+     octets    ReadProperty, its ack, WriteProperty    Who-Is            I-Am            Error
+     0         0, 1, 2                                 3                 4               5
+     1         index present (1 or 0)                  limits present    segmentation
+     2 -  3    object type                                               vendor
+     4 -  7    instance                                low               instance        class
+     8 - 11    property                                high              longest         code
+    12 - 15    index
+    16 - 19    place of the value in the parameters, without its group's tags: the ack and WriteProperty
+    20 - 23    length of the value: the same
+    24         priority present (1 or 0): WriteProperty
+    25         priority: WriteProperty
+   Type and choice: ReadProperty 0 and 12, its ack 3 and 12, WriteProperty 0 and 15, Who-Is 1 and 8, I-Am 1 and 0, Error 5 and 12 or 15. What a service
+   lacks is read as 0. */
+uint8_t hb_service_read(uint8_t kind, uint8_t choice, const uint8_t *params, size_t params_len, uint8_t *fields, size_t fields_len);
+
+/* The parameters of the service that a record is, with the value's octets between the tags of its group: 0, 60, 43 for a first octet above 5, 41 for a
+   field too wide, else the number that reading the output gives, or 61; *wrote octets were written. What a service lacks, and the place and length of the
+   value, are not looked at. */
+uint8_t hb_service_write(const uint8_t *fields, size_t fields_len, const uint8_t *value, size_t value_len, uint8_t *out, size_t out_len, size_t *wrote);
 
 #endif

@@ -18,9 +18,9 @@ use Rattle.apdu.specs.declared.Answer.{Answer}
 use Rattle.apdu.specs.declared.Answer.the-variants.{Good, Refused}
 use Rattle.records.specs.Network.{npduRecord, npduAt}
 use Rattle.records.specs.Application.{apduRecord, apduAt}
-use Rattle.hitchbarley.specs.Answers.{Fills}
+use Rattle.hitchbarley.specs.Answers.{FillsTo}
 use Rattle.hitchbarley.specs.Headers.{apduGood, apduNumber, apduOctets, apduParams, npduFault, apduFault}
-use Rattle.hitchbarley.proofs.Answered.{fills-not, fills-good}
+use Rattle.hitchbarley.proofs.Answered.{fills-to-not, fills-to-good}
 
 -- ---- what a record to be written deserves
 module _ (o : List ℕ) where
@@ -46,21 +46,21 @@ module _ (o : List ℕ) where
 
 -- ---- what a reading fills in
 abbrev pub NpduFills : List ℕ → List ℕ → ℕ → ℕ → List ℕ → Type 0
-NpduFills s area r next later = Fills 29 (eqb (readNpdu s .refused) 0) (readNpdu s .refused) (npduRecord (readNpdu s .head)) (readNpdu s .next) area r next later
+NpduFills s area r next later = FillsTo 29 (eqb (readNpdu s .refused) 0) (readNpdu s .refused) (npduRecord (readNpdu s .head)) (readNpdu s .next) area r next later
 
 module _ (s area : List ℕ) (a : Reading) (e : a ≡ readNpdu s) (k : length area ≡ 29) where
   pub npdu-not : (a .refused ≡ 0 → ⊥) → NpduFills s area (a .refused) 0 area
-  npdu-not h = rw (← e) (fills-not 29 _ _ _ _ area k (ne-eqb (a .refused) 0 h))
+  npdu-not h = rw (← e) (fills-to-not 29 _ _ _ _ area k (ne-eqb (a .refused) 0 h))
 
   pub npdu-good : a .refused ≡ 0 → {later : List ℕ} → later ≡ npduRecord (a .head) → NpduFills s area 0 (a .next) later
-  npdu-good z d = rw (← e) (rw (z) (fills-good 29 _ _ _ _ area k refl d))
+  npdu-good z d = rw (← e) (rw (z) (fills-to-good 29 _ _ _ _ area k refl d))
 
 abbrev pub ApduFills : List ℕ → List ℕ → ℕ → ℕ → List ℕ → Type 0
-ApduFills s area r next later = Fills 12 (apduGood (readApdu s)) (apduNumber (readApdu s)) (apduOctets (readApdu s)) (apduParams (readApdu s)) area r next later
+ApduFills s area r next later = FillsTo 12 (apduGood (readApdu s)) (apduNumber (readApdu s)) (apduOctets (readApdu s)) (apduParams (readApdu s)) area r next later
 
 module _ (s area : List ℕ) (a : Answer) (e : a ≡ readApdu s) (k : length area ≡ 12) where
   pub apdu-not : (x : ℕ) → a ≡ Refused x → ApduFills s area x 0 area
-  apdu-not x d = rw (← e, d) (fills-not 12 _ _ _ _ area k refl)
+  apdu-not x d = rw (← e, d) (fills-to-not 12 _ _ _ _ area k refl)
 
   pub apdu-good : (p : Pdu) → a ≡ Good p → {next : ℕ} {later : List ℕ} → next ≡ paramsAt p → later ≡ apduRecord p → ApduFills s area 0 next later
-  apdu-good p d n l = rw (← e, d, n) (fills-good 12 _ _ _ _ area k refl l)
+  apdu-good p d n l = rw (← e, d, n) (fills-to-good 12 _ _ _ _ area k refl l)

@@ -1,12 +1,18 @@
 -- The item calls: an answer that is an enum, as its number and what it gives back.
 use Prim.Native.Nat.{ℕ}
 use mathlib.Core.Path.{_≡_, refl, sym, ap, _∙_}
+use mathlib.Core.Bool.{true, false}
 use mathlib.Core.List.{List}
+use lib.ListN.{length}
 use Rattle.items.specs.Reading.{itemsOf, counted, itemAt, endOf}
 use Rattle.items.specs.Listing.{Listed}
 use Rattle.items.specs.declared.Tally.{Tally}
 use Rattle.items.specs.declared.One.{One}
-use Rattle.hitchbarley.specs.Items.{tallyNumber, tallyCount, oneNumber, onePlace, Counts, Lists, Steps}
+use Rattle.reader.specs.Reading.{stepOf}
+use Rattle.reader.specs.declared.Step.{Step}
+use Rattle.hitchbarley.specs.Answers.{FillsTo}
+use Rattle.hitchbarley.specs.Items.{tallyNumber, tallyCount, oneNumber, onePlace, Counts, Lists, Steps, stepGood, stepNumber, stepRecord, stepPlace}
+use Rattle.hitchbarley.proofs.Answered.{fills-to-not, fills-to-good}
 
 pub counts : {s : List ℕ} {t : Tally} {r count : ℕ} → t ≡ counted (itemsOf s) → (r ≡ tallyNumber t) × (count ≡ tallyCount t) → Counts s r count
 counts e a = record { number = a .0 ∙ ap tallyNumber e; items = a .1 ∙ ap tallyCount e }
@@ -16,3 +22,14 @@ lists l a = record { number = a .0 ∙ ap tallyNumber (l .answer); items = a .1 
 
 pub steps : {s : List ℕ} {at : ℕ} {o : One} → o ≡ endOf (itemAt s at) → (p : One) → o ≡ p → Steps s at (oneNumber p) (onePlace p)
 steps e p d = let q = sym d ∙ e in record { number = ap oneNumber q; place = ap onePlace q }
+
+-- ---- the reader's step, of the case p
+abbrev pub StepFills : Step → List ℕ → ℕ → ℕ → List ℕ → Type 0
+StepFills p area r next later = FillsTo 12 (stepGood p) (stepNumber p) (stepRecord p) (stepPlace p) area r next later
+
+module _ (s : List ℕ) (at : ℕ) (area : List ℕ) (q : Step) (e : q ≡ stepOf s at) (k : length area ≡ 12) (p : Step) (d : q ≡ p) where
+  pub step-not : stepGood p ≡ false → StepFills (stepOf s at) area (stepNumber p) 0 area
+  step-not g = rw (← e, d) (fills-to-not 12 _ _ _ _ area k g)
+
+  pub step-good : stepGood p ≡ true → {later : List ℕ} → later ≡ stepRecord p → StepFills (stepOf s at) area (stepNumber p) (stepPlace p) later
+  step-good g l = rw (← e, d) (fills-to-good 12 _ _ _ _ area k g l)

@@ -2,4 +2,5 @@ pub mod Passed
 pub mod Answered
 pub mod Headers
 pub mod Items
+pub mod Services
 pub mod Trips

@@ -1,4 +1,4 @@
--- Demand 2 over the records of headers: what a good reading fills in is written as the octets that were read, and what was written reads back.
+-- Demand 2 over the records of headers and services: what a good reading fills in is written as the octets that were read, and what was written reads back.
 use Prim.Native.Nat.{ℕ, _≤_}
 use native.Mathlib.Omega.{arith}
 use mathlib.Core.Path.{_≡_, refl, sym, ap, _∙_}
@@ -25,10 +25,20 @@ use Rattle.apdu.specs.Reading.{readApdu}
 use Rattle.apdu.specs.Writing as Apdu
 use Rattle.apdu.specs.declared.Pdu.{Pdu}
 use Rattle.apdu.specs.declared.Answer.the-variants.{Good}
+use Rattle.services.specs.Reading.{readService}
+use Rattle.services.specs.declared.Answer.{Answer}
+use Rattle.services.specs.declared.Service.{Service}
+use Rattle.service_writer.specs.Writing.{octetsOf, faultOf, valueIn}
+use Rattle.service_writer.proofs.Trips.{writes-back}
 use Rattle.records.specs.Network.{npduRecord, npduAt}
 use Rattle.records.specs.Application.{apduRecord, apduAt}
+use Rattle.records.specs.Service.{serviceRecord, serviceAt}
 use Rattle.records.proofs.Networks.{npdu-size, npdu-back, npdu-kept}
 use Rattle.records.proofs.Applications.{apdu-size, apdu-type-most, apdu-back}
+use Rattle.records.proofs.Services.{service-size, service-sort}
+use Rattle.records.proofs.Spans.{service-read-back}
+use Rattle.hitchbarley.specs.Services.{serviceFault}
+use Rattle.hitchbarley.proofs.Services.{service-sized}
 use Rattle.hitchbarley.specs.Headers.{npduFault, apduFault}
 use Rattle.hitchbarley.proofs.Headers.{npdu-sized, apdu-sized}
 
@@ -45,9 +55,10 @@ npdu-again s os z =
 
 pub apdu-again : (s : List ℕ) (p : Pdu) → readApdu s ≡ Good p → (apduFault (apduRecord p) ≡ 0) × (header (apduAt (apduRecord p)) ≡ take (paramsAt p) s)
 apdu-again s p e =
-    let b = read-writes-back s p e in
-    (apdu-sized (apduRecord p) (apdu-size p) (apdu-type-most p) ∙ ap Apdu.faultOf (apdu-back p) ∙ b .0,
-    ap header (apdu-back p) ∙ sym (rw (← b .1) (take-at (header p) (drop (paramsAt p) s) (paramsAt p) (header-length p))))
+    let b = read-writes-back s p e in (
+      apdu-sized (apduRecord p) (apdu-size p) (apdu-type-most p) ∙ ap Apdu.faultOf (apdu-back p) ∙ b .0,
+      ap header (apdu-back p) ∙ sym (rw (← b .1) (take-at (header p) (drop (paramsAt p) s) (paramsAt p) (header-length p))),
+    )
 
 -- ---- written, then read
 pub npdu-reads : (o t : List ℕ) → npduFault o ≡ 0 → readNpdu (encode (npduAt o) ++ t) ≡ accepted (length (encode (npduAt o))) (shown (npduAt o))
@@ -62,3 +73,11 @@ apdu-reads o t z f =
     let p = pick-so (eqb (length o) 12) (pick (leb (oct o 0) 7) (Apdu.faultOf (apduAt o)) 21) 60 0 (λ w. omega arith) z in
     let q = pick-so (leb (oct o 0) 7) (Apdu.faultOf (apduAt o)) 21 0 (λ w. omega arith) (p .1) in
     written-reads-back (apduAt o) t (q .1) f
+
+-- ---- services: what was read and filled in is written, with the value's octets that the record names, as the parameters that were read
+pub service-again : (kind choice : ℕ) (o : List ℕ) → Octets o → (v : Service) → readService kind choice o ≡ Answer.Good v
+    → (serviceFault (serviceRecord v) (valueIn o v) ≡ 0) × (octetsOf (serviceAt (serviceRecord v)) (valueIn o v) ≡ o)
+service-again kind choice o os v e =
+    let b = service-read-back o os kind choice v e in
+    let w = writes-back kind choice o os v e in
+    (service-sized (serviceRecord v) (valueIn o v) (service-size v) (service-sort v) ∙ ap (λ (x : Service). faultOf x (valueIn o v)) b ∙ w .fine, ap (λ (x : Service). octetsOf x (valueIn o v)) b ∙ w .octets)

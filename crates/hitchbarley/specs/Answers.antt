@@ -25,9 +25,12 @@ pub record Writes (f : ℕ) (o area : List ℕ) (r wrote : ℕ) (later : List �
   pub count : wrote ≡ writtenCount (answerOf f o area)
   pub after : later ≡ areaOf f o area
 
--- what a reader into a record area promises: 60 where the area is not of its size; the reading's number f; where it is good, the record o and the
--- place after what was read
-pub record Fills (size : ℕ) (good : Bool) (f : ℕ) (o : List ℕ) (place : ℕ) (area : List ℕ) (r next : ℕ) (later : List ℕ) : Type 0 where
+-- what a reader into a record area promises: 60 where the area is not of its size; the reading's number f; where it is good, the record o
+pub record Fills (size : ℕ) (good : Bool) (f : ℕ) (o area : List ℕ) (r : ℕ) (later : List ℕ) : Type 0 where
   pub number : r ≡ pick (eqb (length area) size) f 60
-  pub reached : next ≡ pick (eqb (length area) size) (pick good place 0) 0
   pub after : later ≡ pick (eqb (length area) size) (pick good o area) area
+
+-- the same, with the place after what was read, where it is good
+pub record FillsTo (size : ℕ) (good : Bool) (f : ℕ) (o : List ℕ) (place : ℕ) (area : List ℕ) (r next : ℕ) (later : List ℕ) : Type 0 where
+  pub filled : Fills size good f o area r later
+  pub reached : next ≡ pick (eqb (length area) size) (pick good place 0) 0

@@ -1,4 +1,5 @@
 pub mod Answers
 pub mod Headers
 pub mod Items
+pub mod Services
 pub mod Trunk

@@ -8,13 +8,13 @@ ghost use Rattle.apdu.specs.Reading.{readApdu};
 ghost use Rattle.apdu.specs.Layout.{header};
 ghost use Rattle.records.specs.Network.{npduRecord, npduAt};
 ghost use Rattle.records.specs.Application.{apduAt};
-ghost use Rattle.hitchbarley.specs.Answers.{Fills, Writes};
+ghost use Rattle.hitchbarley.specs.Answers.{FillsTo, Writes};
 ghost use Rattle.hitchbarley.specs.Headers.{apduGood, apduNumber, apduOctets, apduParams, npduFault, apduFault};
 
 // The network header at the front of these octets, as a record of 29: 0, 60 or 10 to 14; and the place after it.
 #[no_mangle]
 pub extern "C" fn hb_npdu_read(octets: &[u8], fields: &mut [u8], next: &mut usize) -> u8
-    ensures { λ r. ⌜ Fills 29 (eqb (readNpdu (now (octets .entry)) .refused) 0) (readNpdu (now (octets .entry)) .refused) (npduRecord (readNpdu (now (octets .entry)) .head)) (readNpdu (now (octets .entry)) .next) (now (fields .entry)) r (now (next .exit)) (now (fields .exit)) ⌝ }
+    ensures { λ r. ⌜ FillsTo 29 (eqb (readNpdu (now (octets .entry)) .refused) 0) (readNpdu (now (octets .entry)) .refused) (npduRecord (readNpdu (now (octets .entry)) .head)) (readNpdu (now (octets .entry)) .next) (now (fields .entry)) r (now (next .exit)) (now (fields .exit)) ⌝ }
 {
     *next = 0;
     if fields.len() != 29 {
@@ -48,7 +48,7 @@ pub extern "C" fn hb_npdu_write(fields: &[u8], out: &mut [u8], wrote: &mut usize
 // The header of an APDU, as a record of 12: 0, 60 or 20 to 24; and the place where its parameters begin.
 #[no_mangle]
 pub extern "C" fn hb_apdu_read(octets: &[u8], fields: &mut [u8], next: &mut usize) -> u8
-    ensures { λ r. ⌜ Fills 12 (apduGood (readApdu (now (octets .entry)))) (apduNumber (readApdu (now (octets .entry)))) (apduOctets (readApdu (now (octets .entry)))) (apduParams (readApdu (now (octets .entry)))) (now (fields .entry)) r (now (next .exit)) (now (fields .exit)) ⌝ }
+    ensures { λ r. ⌜ FillsTo 12 (apduGood (readApdu (now (octets .entry)))) (apduNumber (readApdu (now (octets .entry)))) (apduOctets (readApdu (now (octets .entry)))) (apduParams (readApdu (now (octets .entry)))) (now (fields .entry)) r (now (next .exit)) (now (fields .exit)) ⌝ }
 {
     *next = 0;
     if fields.len() != 12 {

@@ -2,5 +2,6 @@
 mod answers;
 mod header_calls;
 mod item_calls;
+mod service_calls;
 mod sum_calls;
 mod trunk_calls;

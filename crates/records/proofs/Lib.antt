@@ -1,3 +1,6 @@
 pub mod Areas
 pub mod Networks
 pub mod Applications
+pub mod Items
+pub mod Services
+pub mod Spans

@@ -32,7 +32,7 @@ module _ (h : Npdu) (k : Kept h) where
       let n : length (a ++ b) ≡ 29 = rw (length-append, p, q) in
       laid-whole area (a ++ b) l₂ (m ∙ sym n) (two-laid area 0 15 a b e₁ e₂ (omega arith) (omega arith)) ∙ simp append-assoc
 
-two-back : (v : ℕ) → v / 256 * 256 + v % 256 ≡ v
+pub two-back : (v : ℕ) → v / 256 * 256 + v % 256 ≡ v
 two-back v = omega arith
 
 -- a header's record is read as that header

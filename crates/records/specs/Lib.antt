@@ -1,3 +1,4 @@
 pub mod Flag
 pub mod Network
 pub mod Application
+pub mod Service

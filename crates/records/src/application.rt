@@ -136,20 +136,7 @@ fn octets_of(p: Pdu) -> [u8; 12]
         ],
         Pdu::Error(q) => [5, 0, 0, 0, 0, 0, 0, q.invoke, 0, 0, q.choice, 0],
         Pdu::Reject(q) => [6, 0, 0, 0, 0, 0, 0, q.invoke, 0, 0, 0, q.reason],
-        Pdu::Abort(q) => [
-            7,
-            0,
-            0,
-            0,
-            0,
-            q.srv as u8,
-            0,
-            q.invoke,
-            0,
-            0,
-            0,
-            q.reason,
-        ],
+        Pdu::Abort(q) => [7, 0, 0, 0, 0, q.srv as u8, 0, q.invoke, 0, 0, 0, q.reason],
     }
 }
 

@@ -1,5 +1,5 @@
 use Rattle.hitchbarley.proofs.Headers.{apdu-not, apdu-good}
-use Rattle.hitchbarley.proofs.Answered.{fills-other}
+use Rattle.hitchbarley.proofs.Answered.{fills-to-other}
 use borrow.Author.Needs.{needs}
 use Rattle.hitchbarley.proofs.header_calls.hb_apdu_read.Statement.{statement}
 use Rattle.hitchbarley.proofs.header_calls.hb_apdu_read.Tie as tie
@@ -8,7 +8,7 @@ pub hb-apdu-read-spec : {M : Type 1} → statement M
 hb-apdu-read-spec =
     tie.close
     (tie.spec
-    (λ c. fills-other 12 _ _ _ _ _ (c .if1 .taken))
+    (λ c. fills-to-other 12 _ _ _ _ _ (c .if1 .taken))
     (λ c κs. search needs)
     (λ c. search needs)
     (λ c κs. search needs)

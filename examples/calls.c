@@ -1,0 +1,301 @@
+/* Each call of the library once and more, on worked octets of the source documents 000, 003 and 004: what is read, what it is written back as, and what is
+   refused. A line for each call; the end is 1 where one differs. */
+#include <stdio.h>
+#include <string.h>
+#include "hitchbarley.h"
+
+struct octets {
+    uint8_t s[96];
+    size_t n;
+};
+
+static int differs; /* of all calls */
+static int wrong;   /* of the call at hand */
+
+/* Octets from two hex digits each. */
+static struct octets of(const char *text)
+{
+    struct octets o = {{0}, 0};
+    unsigned v;
+    int used;
+    for (; sscanf(text, "%2x%n", &v, &used) == 1; text += used) o.s[o.n++] = (uint8_t)v;
+    return o;
+}
+
+static void want(int good)
+{
+    if (!good) wrong = 1;
+}
+
+static void want_octets(const uint8_t *got, size_t n, struct octets wanted)
+{
+    want(n == wanted.n && memcmp(got, wanted.s, n) == 0);
+}
+
+static void tell(const char *call)
+{
+    printf("%s: %s\n", call, wrong ? "DIFFERS" : "as the documents have it");
+    differs |= wrong;
+    wrong = 0;
+}
+
+/* ---- a trunk ---- */
+
+static uint8_t state[HB_STATE], area[HB_AREA], report[HB_REPORT];
+
+/* Feeds all of a frame, which has its one report at its last octet, or none. */
+static void feed(struct octets frame, const char *reports)
+{
+    size_t eaten;
+    uint8_t reported;
+    want(hb_feed(state, HB_STATE, frame.s, frame.n, report, HB_REPORT, area, HB_AREA, &eaten, &reported) == 0);
+    want(eaten == frame.n && reported == (reports != NULL));
+    if (reports) want_octets(report, HB_REPORT, of(reports));
+}
+
+/* A frame around a header's five octets and its data. */
+static struct octets framed(const char *head, const char *data)
+{
+    struct octets h = of(head), d = of(data), f = of("55 FF");
+    uint16_t check = hb_data_check(d.s, d.n);
+    memcpy(f.s + 2, h.s, 5);
+    f.s[7] = hb_header_check(h.s, 5);
+    memcpy(f.s + 8, d.s, d.n);
+    f.s[8 + d.n] = check & 255;
+    f.s[9 + d.n] = check >> 8;
+    f.n = 10 + d.n;
+    return f;
+}
+
+static void trunk(void)
+{
+    size_t eaten;
+    uint8_t reported, piece = 0x55;
+
+    want(hb_fresh(state, HB_STATE) == 0);
+    want(hb_fresh(state, HB_STATE - 1) == HB_NO_AREA);
+    tell("hb_fresh");
+
+    feed(of("55 FF 01 02 01 00 00 F5"), "01 00 01 02 01 00 00 00 00 00 00 00 00 00 00 00");
+    feed(of("55 FF 06 01 03 00 13 39 01 00 30 00 0C 0C 00 00 00 01 19 55 3E 44 42 39 99 9A 3F 36 C6"), "03 00 06 01 03 30 00 00 00 00 00 11 0C 00 00 00");
+    feed(of("55 FF 05 03 01 00 0D 98 01 04 02 03 00 0C 0C 00 00 00 01 19 55 02 A8"), "02 03 00 00 00 00 00 00 00 00 00 00 00 00 00 00");
+    want(hb_feed(state, HB_STATE, &piece, 1, report, HB_REPORT - 1, area, HB_AREA, &eaten, &reported) == HB_NO_AREA && eaten == 0 && reported == 0);
+    want(hb_feed(state, HB_STATE, &piece, 1, report, HB_REPORT, area, HB_AREA - 1, &eaten, &reported) == HB_NO_AREA && eaten == 0 && reported == 0);
+    memset(state, 0xFF, HB_STATE);
+    want(hb_feed(state, HB_STATE, &piece, 1, report, HB_REPORT, area, HB_AREA, &eaten, &reported) == HB_NO_STATE && eaten == 0 && reported == 0);
+    want(hb_silence(state, HB_STATE, report, HB_REPORT, &reported) == HB_NO_STATE && hb_forget(state, HB_STATE, 0) == HB_NO_STATE);
+    tell("hb_feed");
+
+    want(hb_fresh(state, HB_STATE) == 0);
+    want(hb_silence(state, HB_STATE, report, HB_REPORT, &reported) == 0 && reported == 0);
+    feed(of("55 FF 06 FF 01 00 15 8E 01 20 FF FF 00 FF 10 08 15 B6"), NULL);
+    want(hb_silence(state, HB_STATE, report, HB_REPORT, &reported) == 0 && reported == 1);
+    want_octets(report, HB_REPORT, of("02 04 00 00 00 00 00 00 00 00 00 00 00 00 00 00"));
+    want(hb_silence(state, HB_STATE, report, HB_REPORT + 1, &reported) == HB_NO_AREA && reported == 0);
+    tell("hb_silence");
+
+    /* the ack of 004 cut in two: its first segment is held in slot 0, then forgotten */
+    feed(framed("06 01 03 00 0E", "01 00 3C 00 00 01 0C 0C 00 00 00 01 19 55"), "04 00 06 01 03 3C 00 00 00 00 00 07 0C 00 00 00");
+    want(hb_forget(state, HB_STATE, 0) == 0);
+    want(hb_forget(state, HB_STATE, 0) == HB_NOT_OPEN && hb_forget(state, HB_STATE, 4) == HB_NOT_OPEN);
+    want(hb_forget(state, HB_STATE - 1, 0) == HB_NO_AREA);
+    tell("hb_forget");
+
+    /* and both segments: the message stands in slot 0 */
+    feed(framed("06 01 03 00 0E", "01 00 3C 00 00 01 0C 0C 00 00 00 01 19 55"), "04 00 06 01 03 3C 00 00 00 00 00 07 0C 00 00 00");
+    feed(framed("06 01 03 00 0E", "01 00 38 00 01 01 0C 3E 44 42 39 99 9A 3F"), "05 00 06 01 03 38 00 00 00 00 00 0E 0C 00 00 00");
+    want_octets(area, 14, of("0C 00 00 00 01 19 55 3E 44 42 39 99 9A 3F"));
+    tell("a message in two segments");
+}
+
+/* ---- check sums ---- */
+
+static void sums(void)
+{
+    static const uint8_t header_trace[] = {0x55, 0xC2, 0xBC, 0x95, 0x73, 0x55};
+    static const uint16_t data_trace[] = {0x1E0E, 0xEB70, 0x42EF, 0x0F3A, 0xF0B8};
+    struct octets head = of("00 10 05 00 00 8C"), data = of("01 22 30 10 BD");
+    uint8_t h = 0xFF;
+    uint16_t d = 0xFFFF;
+
+    want(hb_header_check(head.s, 5) == 0x8C);
+    tell("hb_header_check");
+    want(hb_data_check(data.s, 3) == 0xBD10);
+    tell("hb_data_check");
+    for (size_t i = 0; i < head.n; i++) want((h = hb_header_run(h, head.s + i, 1)) == header_trace[i]);
+    want(hb_header_run(0xFF, head.s, head.n) == 0x55);
+    tell("hb_header_run");
+    for (size_t i = 0; i < data.n; i++) want((d = hb_data_run(d, data.s + i, 1)) == data_trace[i]);
+    want(hb_data_run(0xFFFF, data.s, data.n) == 0xF0B8);
+    tell("hb_data_run");
+}
+
+/* ---- headers ---- */
+
+typedef uint8_t reader(const uint8_t *, size_t, uint8_t *, size_t, size_t *);
+typedef uint8_t writer(const uint8_t *, size_t, uint8_t *, size_t, size_t *);
+
+/* Octets, the place after their header, its record. */
+struct header {
+    const char *octets;
+    size_t next;
+    const char *record;
+};
+
+static const struct header npdus[] = {
+    {"01 00", 2, "00 00 00 00 00 00 00 00 00 00 00 00 00 00 00 00 00 00 00 00 00 00 00 00 00 00 00 00 00"},
+    {"01 20 FF FF 00 FF 10 08", 6, "00 01 00 00 00 FF FF 00 00 00 00 00 00 00 00 00 00 00 00 00 00 00 00 00 00 FF 00 00 00"},
+    {"01 2C 00 01 01 01 00 02 01 15 FF 02 03 00 0C 0C 00 00 00 01 19 55", 11, "00 01 01 01 00 00 01 01 01 00 00 00 00 00 00 00 02 01 15 00 00 00 00 00 00 FF 00 00 00"},
+    {"01 88 00 02 01 15 01 00 02", 7, "01 00 01 00 00 00 00 00 00 00 00 00 00 00 00 00 02 01 15 00 00 00 00 00 00 00 01 00 00"},
+};
+
+static const struct header apdus[] = {
+    {"02 03 00 0C 0C 00 00 00 01 19 55", 4, "00 00 00 01 00 00 03 00 00 00 0C 00"},
+    {"10 08", 2, "01 00 00 00 00 00 00 00 00 00 08 00"},
+    {"20 05 0F", 3, "02 00 00 00 00 00 00 05 00 00 0F 00"},
+    {"30 00 0C 0C 00 00 00 01 19 55 3E 44 42 39 99 9A 3F", 3, "03 00 00 00 00 00 00 00 00 00 0C 00"},
+    {"50 05 0F 91 01 91 1F", 3, "05 00 00 00 00 00 00 05 00 00 0F 00"},
+    {"60 06 04", 3, "06 00 00 00 00 00 00 06 00 00 00 04"},
+    {"71 06 02", 3, "07 00 00 00 00 01 00 06 00 00 00 02"},
+};
+
+static void headers_read(reader *read, const struct header *h, size_t count, const char *bad, uint8_t number)
+{
+    uint8_t fields[HB_NPDU];
+    size_t next;
+    struct octets o;
+    for (size_t i = 0; i < count; i++) {
+        struct octets r = of(h[i].record);
+        o = of(h[i].octets);
+        want(read(o.s, o.n, fields, r.n, &next) == 0 && next == h[i].next);
+        want_octets(fields, r.n, r);
+        want(read(o.s, o.n, fields, r.n - 1, &next) == HB_NO_AREA && next == 0);
+        want_octets(fields, r.n, r);
+    }
+    o = of(bad);
+    want(read(o.s, o.n, fields, of(h->record).n, &next) == number && next == 0);
+}
+
+/* Each back to the octets that were read, into an area just large enough; then with one field that breaks a rule. */
+static void headers_written(writer *write, const struct header *h, size_t count, size_t place, uint8_t value, uint8_t number)
+{
+    uint8_t out[32];
+    size_t wrote;
+    for (size_t i = 0; i < count; i++) {
+        struct octets r = of(h[i].record), o = of(h[i].octets);
+        o.n = h[i].next;
+        want(write(r.s, r.n, out, o.n - 1, &wrote) == HB_SMALL && wrote == 0);
+        want(write(r.s, r.n, out, o.n, &wrote) == 0);
+        want_octets(out, wrote, o);
+        want(write(r.s, r.n + 1, out, sizeof out, &wrote) == HB_NO_AREA && wrote == 0);
+        r.s[place] = value;
+        want(write(r.s, r.n, out, sizeof out, &wrote) == number && wrote == 0);
+    }
+}
+
+/* ---- tag items: the parameters of the ReadProperty ack of 004 ---- */
+
+static void items(void)
+{
+    struct octets o = of("0C 00 00 00 01 19 55 3E 44 42 39 99 9A 3F"), bad = of("3E 4F");
+    struct octets r = of("01 00 00 00 00 00 00 01 00 00 00 04  01 01 00 00 00 00 00 06 00 00 00 01  02 03 00 00 00 00 00 08 00 00 00 00"
+                         "00 04 01 00 00 00 00 09 00 00 00 04  03 03 00 00 00 00 00 0E 00 00 00 00");
+    uint8_t listed[5 * HB_ITEM], item[HB_ITEM], out[16];
+    size_t count, next, wrote, met = 0;
+
+    want(hb_items_count(o.s, o.n, &count) == 0 && count == 5);
+    want(hb_items_count(bad.s, bad.n, &count) == HB_ITEM_CLOSING && count == 0);
+    tell("hb_items_count");
+
+    want(hb_items_list(o.s, o.n, listed, sizeof listed, &count) == 0 && count == 5);
+    want_octets(listed, sizeof listed, r);
+    want(hb_items_list(o.s, o.n, listed, sizeof listed - 1, &count) == HB_SMALL && count == 0);
+    want(hb_items_list(bad.s, 1, listed, sizeof listed, &count) == HB_ITEM_OPEN && count == 0);
+    tell("hb_items_list");
+
+    want(hb_item_next(o.s, o.n, 0, &next) == 0 && next == 5);
+    want(hb_item_next(o.s, o.n, 7, &next) == 0 && next == 14);
+    want(hb_item_next(o.s, o.n, 14, &next) == HB_ITEM_ENDS && next == 0);
+    tell("hb_item_next");
+
+    /* what stands in no group: the object, the property and the value's group */
+    for (size_t at = 0; hb_item_step(o.s, o.n, at, item, HB_ITEM, &next) == 0 && next; at = next) want(memcmp(item, r.s + HB_ITEM * met++, HB_ITEM) == 0);
+    want(met == 3 && next == 0);
+    want(hb_item_step(o.s, o.n, 13, item, HB_ITEM, &next) == HB_ITEM_CLOSING && next == 0);
+    want(hb_item_step(o.s, o.n, 0, item, HB_ITEM - 1, &next) == HB_NO_AREA && next == 0);
+    tell("hb_item_step");
+
+    want(hb_items_write(r.s, r.n, o.s, o.n, out, o.n, &wrote) == 0);
+    want_octets(out, wrote, o);
+    want(hb_items_write(r.s, r.n, o.s, o.n, out, o.n - 1, &wrote) == HB_SMALL && wrote == 0);
+    want(hb_items_write(r.s, r.n - HB_ITEM, o.s, o.n, out, sizeof out, &wrote) == HB_NO_READING && wrote == 0);
+    tell("hb_items_write");
+}
+
+/* ---- services: type, choice, parameters, record, and the value's octets ---- */
+
+static const struct service {
+    uint8_t kind, choice;
+    const char *params, *record, *value;
+} services[] = {
+    {0, 12, "0C 00 00 00 01 19 55", "00 00 00 00 00 00 00 01 00 00 00 55 00 00 00 00 00 00 00 00 00 00 00 00 00 00", ""},
+    {3, 12, "0C 00 00 00 01 19 55 3E 44 42 39 99 9A 3F", "01 00 00 00 00 00 00 01 00 00 00 55 00 00 00 00 00 00 00 08 00 00 00 05 00 00", "44 42 39 99 9A"},
+    {0, 15, "0C 01 00 00 01 19 55 3E 91 00 3F 49 07", "02 00 00 04 00 00 00 01 00 00 00 55 00 00 00 00 00 00 00 08 00 00 00 02 01 07", "91 00"},
+    {1, 8, "", "03 00 00 00 00 00 00 00 00 00 00 00 00 00 00 00 00 00 00 00 00 00 00 00 00 00", ""},
+    {1, 8, "09 03 19 03", "03 01 00 00 00 00 00 03 00 00 00 03 00 00 00 00 00 00 00 00 00 00 00 00 00 00", ""},
+    {1, 0, "C4 02 00 00 01 22 01 E0 91 03 22 02 2B", "04 03 02 2B 00 00 00 01 00 00 01 E0 00 00 00 00 00 00 00 00 00 00 00 00 00 00", ""},
+    {5, 15, "91 01 91 1F", "05 00 00 00 00 00 00 01 00 00 00 1F 00 00 00 00 00 00 00 00 00 00 00 00 00 00", ""},
+};
+
+static void services_tried(void)
+{
+    uint8_t fields[HB_SERVICE], out[32];
+    size_t wrote, count = sizeof services / sizeof *services;
+
+    for (size_t i = 0; i < count; i++) {
+        struct octets p = of(services[i].params), r = of(services[i].record);
+        want(hb_service_read(services[i].kind, services[i].choice, p.s, p.n, fields, HB_SERVICE) == 0);
+        want_octets(fields, HB_SERVICE, r);
+        want(hb_service_read(services[i].kind, services[i].choice, p.s, p.n, fields, HB_SERVICE + 1) == HB_NO_AREA);
+        want(hb_service_read(4, services[i].choice, p.s, p.n, fields, HB_SERVICE) == HB_SERVICE_CHOICE);
+        want_octets(fields, HB_SERVICE, r);
+    }
+    want(hb_service_read(0, 12, out, 0, fields, HB_SERVICE) == HB_SERVICE_ITEM);
+    want(hb_service_read(3, 12, of("3E").s, 1, fields, HB_SERVICE) == HB_ITEM_OPEN);
+    tell("hb_service_read");
+
+    for (size_t i = 0; i < count; i++) {
+        struct octets p = of(services[i].params), r = of(services[i].record), v = of(services[i].value);
+        want(hb_service_write(r.s, r.n, v.s, v.n, out, p.n, &wrote) == 0);
+        want_octets(out, wrote, p);
+        want(p.n == 0 || (hb_service_write(r.s, r.n, v.s, v.n, out, p.n - 1, &wrote) == HB_SMALL && wrote == 0));
+        want(hb_service_write(r.s, r.n - 1, v.s, v.n, out, sizeof out, &wrote) == HB_NO_AREA && wrote == 0);
+        r.s[0] = 6;
+        want(hb_service_write(r.s, r.n, v.s, v.n, out, sizeof out, &wrote) == HB_SERVICE_CHOICE && wrote == 0);
+    }
+    {
+        struct octets r = of(services[0].record), w = of(services[2].record), v = of("3F 3E");
+        r.s[2] = 4; /* object type 1024 */
+        want(hb_service_write(r.s, r.n, v.s, 0, out, sizeof out, &wrote) == HB_SERVICE_VALUE && wrote == 0);
+        w.s[24] = 0; /* a value that closes its group and opens another */
+        want(hb_service_write(w.s, w.n, v.s, v.n, out, sizeof out, &wrote) == HB_SERVICE_OVER && wrote == 0);
+    }
+    tell("hb_service_write");
+}
+
+int main(void)
+{
+    trunk();
+    sums();
+    headers_read(hb_npdu_read, npdus, sizeof npdus / sizeof *npdus, "02 00", HB_NPDU_VERSION);
+    tell("hb_npdu_read");
+    headers_written(hb_npdu_write, npdus, sizeof npdus / sizeof *npdus, 4, 4, HB_NPDU_CONTROL);
+    tell("hb_npdu_write");
+    headers_read(hb_apdu_read, apdus, sizeof apdus / sizeof *apdus, "80 00", HB_APDU_TYPE);
+    tell("hb_apdu_read");
+    headers_written(hb_apdu_write, apdus, sizeof apdus / sizeof *apdus, 0, 8, HB_APDU_TYPE);
+    tell("hb_apdu_write");
+    items();
+    services_tried();
+    return differs;
+}

@@ -1,0 +1,83 @@
+// Each call once through the Rust declarations, on worked octets of the source documents. The end is 1 where one differs.
+#[allow(dead_code)]
+#[path = "../include/hitchbarley.rs"]
+mod hitchbarley;
+use hitchbarley::*;
+
+// Octets from two hex digits each.
+fn of(text: &str) -> Vec<u8> {
+    text.split(' ').map(|o| u8::from_str_radix(o, 16).unwrap()).collect()
+}
+
+fn trunk() -> bool {
+    let (mut state, mut area, mut report) = ([0u8; HB_STATE], vec![0u8; HB_AREA], [0u8; HB_REPORT]);
+    let frame = of("55 FF 01 02 01 00 00 F5");
+    let (mut eaten, mut reported, mut spoke) = (0, 0, 1);
+    unsafe {
+        hb_fresh(state.as_mut_ptr(), state.len()) == 0
+            && hb_feed(
+                state.as_mut_ptr(), state.len(), frame.as_ptr(), frame.len(), report.as_mut_ptr(), report.len(), area.as_mut_ptr(), area.len(),
+                &mut eaten, &mut reported,
+            ) == 0
+            && (eaten, reported) == (8, 1)
+            && report[..] == of("01 00 01 02 01 00 00 00 00 00 00 00 00 00 00 00")[..]
+            && hb_silence(state.as_mut_ptr(), state.len(), report.as_mut_ptr(), report.len(), &mut spoke) == 0
+            && spoke == 0
+            && hb_forget(state.as_mut_ptr(), state.len(), 0) == HB_NOT_OPEN
+    }
+}
+
+fn sums() -> bool {
+    let (head, data) = (of("00 10 05 00 00 8C"), of("01 22 30 10 BD"));
+    unsafe {
+        hb_header_check(head.as_ptr(), 5) == 0x8C
+            && hb_data_check(data.as_ptr(), 3) == 0xBD10
+            && hb_header_run(0xFF, head.as_ptr(), 6) == 0x55
+            && hb_data_run(0xFFFF, data.as_ptr(), 5) == 0xF0B8
+    }
+}
+
+type Read = unsafe extern "C" fn(*const u8, usize, *mut u8, usize, *mut usize) -> u8;
+
+// A header read and written back.
+fn header(read: Read, write: Read, octets: &str, next: usize, record: &str) -> bool {
+    let (o, wanted) = (of(octets), of(record));
+    let (mut fields, mut out, mut reached, mut wrote) = (vec![0u8; wanted.len()], [0u8; 32], 0, 0);
+    let answered = unsafe {
+        read(o.as_ptr(), o.len(), fields.as_mut_ptr(), fields.len(), &mut reached) == 0
+            && write(fields.as_ptr(), fields.len(), out.as_mut_ptr(), out.len(), &mut wrote) == 0
+    };
+    answered && (reached, wrote) == (next, next) && fields == wanted && out[..next] == o[..next]
+}
+
+// The items of a ReadProperty ack, and the service.
+fn params() -> bool {
+    let o = of("0C 00 00 00 01 19 55 3E 44 42 39 99 9A 3F");
+    let wanted = of("01 00 00 00 00 00 00 01 00 00 00 55 00 00 00 00 00 00 00 08 00 00 00 05 00 00");
+    let (mut listed, mut item, mut fields, mut out) = ([0u8; 5 * HB_ITEM], [0u8; HB_ITEM], [0u8; HB_SERVICE], [0u8; 16]);
+    let (mut count, mut all, mut next, mut to, mut wrote, mut again) = (0, 0, 0, 0, 0, 0);
+    unsafe {
+        hb_items_count(o.as_ptr(), o.len(), &mut count) == 0
+            && hb_items_list(o.as_ptr(), o.len(), listed.as_mut_ptr(), listed.len(), &mut all) == 0
+            && hb_item_next(o.as_ptr(), o.len(), 7, &mut next) == 0
+            && hb_item_step(o.as_ptr(), o.len(), 7, item.as_mut_ptr(), item.len(), &mut to) == 0
+            && (count, all, next, to) == (5, 5, 14, 14)
+            && item[..] == listed[2 * HB_ITEM..3 * HB_ITEM]
+            && hb_items_write(listed.as_ptr(), listed.len(), o.as_ptr(), o.len(), out.as_mut_ptr(), out.len(), &mut wrote) == 0
+            && out[..wrote] == o[..]
+            && hb_service_read(3, 12, o.as_ptr(), o.len(), fields.as_mut_ptr(), fields.len()) == 0
+            && fields[..] == wanted[..]
+            && hb_service_write(fields.as_ptr(), fields.len(), o[8..].as_ptr(), 5, out.as_mut_ptr(), out.len(), &mut again) == 0
+            && out[..again] == o[..]
+    }
+}
+
+fn main() {
+    let npdu = "00 01 00 00 00 FF FF 00 00 00 00 00 00 00 00 00 00 00 00 00 00 00 00 00 00 FF 00 00 00";
+    let good = trunk()
+        && sums()
+        && header(hb_npdu_read, hb_npdu_write, "01 20 FF FF 00 FF 10 08", 6, npdu)
+        && header(hb_apdu_read, hb_apdu_write, "02 03 00 0C 0C 00 00 00 01 19 55", 4, "00 00 00 01 00 00 03 00 00 00 0C 00")
+        && params();
+    std::process::exit(!good as i32);
+}
