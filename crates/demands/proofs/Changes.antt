@@ -31,12 +31,12 @@ use Rattle.recordings.specs.Frames.{actOn, rules}
 use Rattle.collector.specs.Report.{reportOctets}
 use Rattle.collector.specs.Frame.{Content, contentOf, paramsOf, bacnet, byTags, plainReport, answeredReport, segmentAt, plainAt, answeredAt}
 use Rattle.collector.specs.Frame.Content.{other, refuses, network, message}
-use Rattle.collector.specs.Calls.{box, sound, passing, sized, slotsOf, written, saidSo, unfedBy, quietBy, Answered, feedRefusal, feeding, Feeds, silenceRefusal, stilling, Stills}
+use Rattle.collector.specs.Calls.{box, sound, passing, sized, slotsOf, written, saidSo, Answered, feedRefusal, feeding, Feeds, silenceRefusal, stilling, Stills}
 use Rattle.collector.specs.declared.Collector.{Collector}
 use Rattle.collector.proofs.Alike.{feeds-one, stills-one}
 use Rattle.collector.proofs.Refusals.{refused-keeps}
 use Rattle.collector.proofs.Demand as Demand
-use Rattle.demands.specs.Words.{BySegment, ByOutcome}
+use Rattle.demands.specs.Words.{unfedBy, quietBy, BySegment, ByOutcome}
 use Rattle.demands.specs.Demands.{FeedRefused, SilenceRefused, ForgetRefused, FeedDoes, SilenceDoes, ForgetDoes, OthersStay}
 
 -- ---- refused: nothing changes

@@ -72,13 +72,13 @@ use Rattle.rebuild.specs.declared.Forgot.{Forgot as Freed}
 use Rattle.recordings.specs.Frames.{rules, history, Completes}
 use Rattle.collector.specs.Report.{damaged}
 use Rattle.collector.specs.Frame.{bacnet, segmentAt}
-use Rattle.collector.specs.Calls.{passing, slotsOf, freshCollector, written, saidSo, unfedBy, quietBy, Feeds, Stills, Forgets}
+use Rattle.collector.specs.Calls.{passing, slotsOf, freshCollector, written, saidSo, Feeds, Stills, Forgets}
 use Rattle.collector.specs.Offering.{Passes, End, Called}
 use Rattle.collector.specs.declared.Collector.{Collector}
 use Rattle.collector.specs.declared.Fed.{Fed}
 use Rattle.collector.specs.declared.Fell.{Fell}
 use Rattle.collector.specs.declared.Forgot.{Forgot}
-use Rattle.demands.specs.Words.{One, Between, SixtyThenFiftyNine, BrokenReceiver, Broken, Four, WritesBy, SegmentChanges, FeedChanges, shownService}
+use Rattle.demands.specs.Words.{One, Between, SixtyThenFiftyNine, BrokenReceiver, Broken, Four, WritesBy, SegmentChanges, unfedBy, quietBy, FeedChanges, shownService}
 
 -- ---- DEMAND 1. "Every call, on any octets, records, slot numbers or areas, stays in bounds and ends. Bad input gets the refusal number that document 01
 -- fixes, and the call changes only what that page then lets it."

@@ -29,6 +29,7 @@ use Rattle.collector.specs.Calls.{slotsOf}
 use Rattle.collector.specs.Frame.{segmentAt, plainAt, answeredAt}
 use Rattle.collector.specs.declared.Collector.{Collector}
 use Rattle.collector.specs.declared.Fed.{Fed}
+use Rattle.collector.specs.declared.Fell.{Fell}
 
 -- ---- "any two answers it allows are shown equal": an answer with all that a call leaves in what it was lent. There is one that the promise P allows,
 -- so that it asks nothing impossible, and no other.
@@ -96,6 +97,13 @@ abbrev pub SegmentChanges : Segment Key → Box Key → Answer → List (Slot Ke
 SegmentChanges g b (refused n) slots area = SegmentRefused g b n slots area
 SegmentChanges g b (taken i n) slots area = SegmentLaid g b i n (awaiting keys g n) slots area
 SegmentChanges g b (completed i n) slots area = SegmentLaid g b i n (empty keys) slots area
+
+-- ---- a refused piece: nothing eaten, nothing changed; a refused silence
+abbrev pub unfedBy : ℕ → Collector → Fed
+unfedBy n c = record { refused = n; eaten = 0; reported = false; state = c }
+
+abbrev pub quietBy : ℕ → Collector → Fell
+quietBy n c = record { refused = n; reported = false; state = c }
 
 -- ---- what a piece that is not refused changes: by what the receiver's answer f ended, and by the segment that a good frame carries
 abbrev pub BySegment : Collector → List ℕ → Out → Option (Segment Key) → List ℕ → List (Slot Key) → List ℕ → Type 0
