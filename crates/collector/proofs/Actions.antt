@@ -1,10 +1,11 @@
 -- The ways in which a function comes to do what a frame's content does.
 use Prim.Native.Nat.{ℕ, _+_, _*_, _≤_}
-use mathlib.Core.Path.{_≡_, refl, sym, ap, _∙_}
-use mathlib.Core.Bool.{true, false}
+use mathlib.Core.Path.{_≡_, refl, sym, ap, subst, _∙_}
+use mathlib.Core.Bool.{Bool, true, false}
 use mathlib.Core.List.{List}
 use mathlib.Core.Option.{Option, none, some}
 use native.Mathlib.Omega.{arith}
+use lib.Dec.{T}
 use lib.ListN.{length}
 use Rattle.octets.specs.Choice.{given-true, given-false}
 use Rattle.apdu.specs.Fields.{segmentOf}
@@ -29,7 +30,7 @@ use Rattle.rebuild.proofs.Page.{take-keeps, take-complete}
 use Rattle.recordings.specs.Frames.{actOn, rules}
 use Rattle.collector.specs.Frame.{Content, segmentFrom, segmentIn, plainReport, segmentReport, contentOf, bacnet}
 use Rattle.collector.specs.Frame.Content.{message}
-use Rattle.collector.specs.Acting.{Acts, segmentActs, actingBy, acting, Acted, stepReport, Named}
+use Rattle.collector.specs.Acting.{Acts, segmentActs, actingBy, acting, Acted, Kept, stepReport, Named}
 
 pub acted-by : {w v : Acts} {t : Slots} {report area : List ℕ} → w ≡ v → Acted v t report area → Acted w t report area
 acted-by e h = rw e h
@@ -39,6 +40,10 @@ pub acted-plain : (head : List ℕ) (x : Content) (t : Slots) {report : List ℕ
     → Acted (acting head x (view t) area) t report area
 unfolding acting
 acted-plain head x t area e h = rw e (record { said = h; slots = refl; left = refl })
+
+-- slots that may have moved can be any
+pub moved-slots : {t u : Slots} → Kept true t u
+moved-slots e = absurd (subst (λ (b : Bool). T b) e tt)
 
 -- an APDU, segment or not
 pub no-segment : (head : List ℕ) (p : Pdu) (a : List ℕ) → segmentOf p .seg ≡ false → segmentIn head (message p a) ≡ none

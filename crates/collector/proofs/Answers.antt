@@ -9,6 +9,7 @@ use lib.ListN.{length, take}
 use borrow.Author.Tests.{eq-eqb, ne-eqb}
 use Rattle.octets.specs.Choice.{pick, both, pick-case}
 use Rattle.frames.specs.declared.Outcome.the-variants.{Quiet, Frame, Damage}
+use Rattle.frames.specs.declared.Link.{Link}
 use Rattle.frames.specs.declared.Receiver.{Receiver}
 use Rattle.frames.specs.declared.Fed.{Fed as Ended}
 use Rattle.frames.specs.declared.Fell.{Fell as Still}
@@ -25,7 +26,10 @@ use Rattle.recordings.specs.Frames.{rules}
 use Rattle.collector.specs.Report.{damaged}
 use Rattle.collector.specs.Frame.{contentOf, bacnet}
 use Rattle.collector.specs.Acting.{acting, Acted}
-use Rattle.collector.specs.Calls.{passing, slotsOf, sound, Answered, feedRefusal, feeding, Tells, Feeds, unfedBy, silenceRefusal, stilling, Falls, Stills, quietBy, Forgets}
+use Rattle.collector.specs.Calls.{passing, slotsOf, sound, Answered, feedRefusal, feeding, Tells, Feeds, silenceRefusal, stilling, Falls, Stills, Forgets}
+use Rattle.collector.specs.Lent as Lent
+use Rattle.collector.specs.Lent.{over, Eats}
+use Rattle.collector.specs.declared.lent.Ate.{Ate}
 use Rattle.collector.specs.declared.Collector.{Collector}
 use Rattle.collector.specs.declared.Fed.{Fed}
 use Rattle.collector.specs.declared.Fell.{Fell}
@@ -48,6 +52,9 @@ slots-pass : (c : Collector) (n : ℕ) → passing (slotsOf c) ≡ true → pick
 slots-pass c n e = ap (λ (b : Bool). pick (both (soundOf (c .receiver)) b) n 59) e ∙ ap (λ (b : Bool). pick b n 59) (both-yes (soundOf (c .receiver)))
 
 -- ---- feeding
+-- a refused piece: nothing eaten, nothing changed
+abbrev unfedBy : ℕ → Collector → Fed
+unfedBy n c = record { refused = n; eaten = 0; reported = false; state = c }
 
 tells-not : (n : ℕ) (c : Collector) (report area : List ℕ) → Tells n (unmoved (c .receiver) (slotsOf c) area) report (unfedBy n c) report area
 tells-not n c report area = record { refused = refl; eaten = refl; reported = refl; receiver = refl; slots = refl; reportAfter = refl; areaAfter = refl }
@@ -83,6 +90,11 @@ module _ (c : Collector) (report area piece : List ℕ) where
         let d : feeding c report area piece ≡ ruled (rules keys bacnet) (slotsOf c) area f =
         rw (eq-eqb (length report) 16 k, eq-eqb (length area) 65536 z, p) (ap (λ (f : Ended). ruled (rules keys bacnet) (slotsOf c) area f) (sym e)) in
         tells-by n d h
+
+-- over a lent store
+pub eats-not : {n : ℕ} {l : Link} {t : Slots} {store report area piece : List ℕ} {r : Ate} → r ≡ Lent.unfedBy n l t → Feeds (over l t store) report area piece (unfedBy n (over l t store)) report area
+    → Eats l t store report area piece r store report area
+eats-not e h = rw e (record { feeds = h; kept = λ z. refl })
 
 -- a good frame's data lie in the store
 pub data-fits : (r : Receiver) (xs : List ℕ) {f : Ended} {n : ℕ} → f ≡ feedOf r xs → f .outcome ≡ Frame → n ≡ lengthOf (f .receiver .link .head) → n ≤ 501
@@ -133,6 +145,10 @@ module _ (f : Ended) (s : Slots) (report area : List ℕ) where
       rw e (record { refused = refl; eaten = refl; reported = refl; receiver = refl; slots = rw w (h .slots); reportAfter = rw w (h .said); areaAfter = rw w (h .left) })
 
 -- ---- a silence
+-- one that reports nothing, or is refused
+abbrev quietBy : ℕ → Collector → Fell
+quietBy n c = record { refused = n; reported = false; state = c }
+
 module _ (c : Collector) (report : List ℕ) where
   falls-by : {n : ℕ} {d : Answered} {r : Fell} {report′ : List ℕ} → silenceRefusal c report ≡ n → stilling c report [] ≡ d → Falls n d report r report′ → Stills c report r report′
   falls-by e q h = rw (e, q) h

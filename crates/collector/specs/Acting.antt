@@ -1,7 +1,7 @@
 -- What a good frame's content does to slots and area, with its report: the promise of the functions that judge a frame.
 use Prim.Native.Nat.{ℕ, _+_, _*_, _≤_}
 use mathlib.Core.Path.{_≡_}
-use mathlib.Core.Bool.{true}
+use mathlib.Core.Bool.{Bool, true, false}
 use mathlib.Core.List.{List}
 use mathlib.Core.Option.{Option, none, some}
 use lib.ListN.{length}
@@ -46,6 +46,10 @@ pub record Acted (w : Acts) (t : Slots) (report area : List ℕ) : Type 0 where
   pub said : report ≡ w .0
   pub slots : view t ≡ w .1
   pub left : area ≡ w .2
+
+-- slots that have not moved are those that were there
+abbrev pub Kept : Bool → Slots → Slots → Type 0
+Kept moved t u = moved ≡ false → u ≡ t
 
 -- what such a function is lent: both areas of their sizes, and slots that 59 passes
 pub record Lent (report : List ℕ) (t : Slots) (area : List ℕ) : Type 0 where

@@ -88,10 +88,6 @@ pub record Tells (n : ℕ) (d : Answered) (report : List ℕ) (r : Fed) (report�
 abbrev pub Feeds : Collector → List ℕ → List ℕ → List ℕ → Fed → List ℕ → List ℕ → Type 0
 Feeds c report area piece r report′ area′ = Tells (feedRefusal c report area) (feeding c report area piece) report r report′ area′
 
--- a refused piece: nothing eaten, nothing changed
-abbrev pub unfedBy : ℕ → Collector → Fed
-unfedBy n c = record { refused = n; eaten = 0; reported = false; state = c }
-
 -- ---- a silence lends the report area alone
 unfoldable pub silenceRefusal : Collector → List ℕ → ℕ
 silenceRefusal c report = pick (eqb (length report) reportSize) (pick (sound (c .receiver) (slotsOf c)) 0 59) 60
@@ -110,10 +106,6 @@ pub record Falls (n : ℕ) (d : Answered) (report : List ℕ) (r : Fell) (report
 
 abbrev pub Stills : Collector → List ℕ → Fell → List ℕ → Type 0
 Stills c report r report′ = Falls (silenceRefusal c report) (stilling c report []) report r report′
-
--- a silence that reports nothing, or is refused
-abbrev pub quietBy : ℕ → Collector → Fell
-quietBy n c = record { refused = n; reported = false; state = c }
 
 -- ---- "Forgetting frees a slot, answers 0, 59 or 56 and writes no report": 59, then 56
 pub record Forgets (c : Collector) (s : ℕ) (r : Forgot) : Type 0 where

@@ -3,3 +3,4 @@ pub mod Frame
 pub mod Acting
 pub mod Calls
 pub mod Offering
+pub mod Lent

@@ -19,7 +19,7 @@ ghost use Rattle.items.specs.Reading.{itemsOf};
 ghost use Rattle.rebuild.specs.View.{view};
 ghost use Rattle.collector.specs.Report.{reportOctets};
 ghost use Rattle.collector.specs.Frame.{Content, byTags, plainReport, npduContent, apduContent, contentOf};
-ghost use Rattle.collector.specs.Acting.{acting, segmentActs, stepReport, Named, Acted, Lent};
+ghost use Rattle.collector.specs.Acting.{acting, segmentActs, stepReport, Named, Acted, Kept, Lent};
 
 // "its tags good", or kind 6 with the tag number.
 fn put_by_tags(out: &mut [u8], params: &[u8], l: Line)
@@ -180,18 +180,35 @@ fn act_npdu(head: [u8; 5], payload: &[u8], slots: Slots, out: &mut [u8], area: &
     act_apdu(head, &payload[next..], slots, out, area)
 }
 
-// A good frame: its head and its data.
-pub fn act(head: [u8; 5], payload: &[u8], slots: Slots, out: &mut [u8], area: &mut [u8]) -> Slots
+// What a good frame leaves: whether the slots may have moved, and the slots.
+pub struct Done {
+    pub moved: bool,
+    pub slots: Slots,
+}
+
+// A good frame: its head and its data. Slots move by a frame of type 5 or 6 alone.
+pub fn act(head: [u8; 5], payload: &[u8], slots: Slots, out: &mut [u8], area: &mut [u8]) -> Done
     requires { ⌜ Lent (now out) slots (now area) × (length (now payload) ≤ 501) ⌝ }
-    ensures { λ r. ⌜ Acted (acting head (contentOf head (now (payload .entry))) (view slots) (now (area .entry))) r (now (out .exit)) (now (area .exit)) ⌝ }
+    ensures { λ r. ⌜ Acted (acting head (contentOf head (now (payload .entry))) (view slots) (now (area .entry))) (r .slots) (now (out .exit)) (now (area .exit)) × Kept (r .moved) slots (r .slots) ⌝ }
 {
     let kind = head[0];
     if kind == 5 {
-        return act_npdu(head, payload, slots, out, area);
+        let later = act_npdu(head, payload, slots, out, area);
+        return Done {
+            moved: true,
+            slots: later,
+        };
     }
     if kind == 6 {
-        return act_npdu(head, payload, slots, out, area);
+        let later = act_npdu(head, payload, slots, out, area);
+        return Done {
+            moved: true,
+            slots: later,
+        };
     }
     report::put_short(out, 1, 0, head, payload.len() as u32);
-    slots
+    Done {
+        moved: false,
+        slots,
+    }
 }

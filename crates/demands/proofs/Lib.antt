@@ -1,3 +1,9 @@
+pub mod Calls
+pub mod FiftyNine
+pub mod Numbers
+pub mod ServiceNumbers
+pub mod Segments
+pub mod Changes
 pub mod One
 pub mod Two
 pub mod Three

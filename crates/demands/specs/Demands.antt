@@ -1,92 +1,274 @@
 -- What the user demands, in the user's order, as statements over the crates' own definitions. Each is proved in proofs/, under its name in small letters.
 use Prim.Native.Nat.{ℕ, _*_, _≤_, _<_, _+_}
 use mathlib.Core.Path.{_≡_}
-use mathlib.Core.Logic.{_↔_}
+use mathlib.Core.Logic.{_↔_, _⊎_}
+use mathlib.Core.Bool.{true, false}
 use mathlib.Core.List.{List, [], _∷_, _++_}
 use mathlib.Core.Option.{some}
-use lib.ListN.{length, take, drop}
+use lib.ListN.{length, take, drop, set}
+use denote.Ref.{RefT, now}
 use Rattle.octets.specs.Reading.{Octets}
 use Rattle.octets.specs.Exact.{Exactly}
+use Rattle.octets.specs.Has.{Has}
 use Rattle.octets.specs.Laid.{Laid}
 use Rattle.octets.specs.declared.Written.{Written}
-use Rattle.octets.specs.declared.Written.the-variants.{Wrote}
-use Rattle.sums.specs.Sums.{headerStart, headerLeft, headerRun, headerCheck, dataStart, dataLeft, dataRun, dataCheck}
+use Rattle.octets.specs.declared.Written.the-variants.{Wrote, Refused}
+use Rattle.sums.specs.Sums.{headerStart, headerLeft, headerStep, headerRun, headerCheck, dataStart, dataLeft, dataStep, dataRun, dataCheck, dataSent}
 use Rattle.runs.specs.Run.{Event, ended, Run, wire, walk}
+use Rattle.runs.specs.Run.Order.{trunk}
+use Rattle.frames.specs.Step.{freshOf, feedOf, silenceOf}
+use Rattle.frames.specs.declared.Outcome.the-variants.{Quiet}
 use Rattle.frames.specs.declared.Receiver.{Receiver}
+use Rattle.frames.specs.declared.Fed.{Fed as ReceiverFed}
+use Rattle.frames.specs.declared.Fell.{Fell as ReceiverFell}
 use Rattle.trunk.specs.Reading.{Out, keptOf, heldOf, came, readFrom}
 use Rattle.trunk.specs.Reading.Out.{good}
 use Rattle.trunk.specs.Frames.{FrameAt, Bytes}
-use Rattle.trunk.specs.Demand.{Sound, reading}
+use Rattle.trunk.specs.Demand.{Sound, reading, hurtBy}
 use Rattle.npdu.specs.declared.Npdu.{Npdu}
-use Rattle.npdu.specs.Read.{readNpdu}
+use Rattle.npdu.specs.declared.Reading.{Reading}
+use Rattle.npdu.specs.Read.{readNpdu, refusedBy}
 use Rattle.npdu.specs.Layout as Network
 use Rattle.npdu.specs.Fault as NetworkFault
 use Rattle.npdu.specs.Follow as NetworkRead
 use Rattle.apdu.specs.declared.Pdu.{Pdu}
-use Rattle.apdu.specs.declared.Answer.the-variants.{Good}
+use Rattle.apdu.specs.declared.Answer as Apdu
 use Rattle.apdu.specs.Reading.{readApdu}
 use Rattle.apdu.specs.Fields.{paramsAt}
 use Rattle.apdu.specs.Layout as Header
 use Rattle.apdu.specs.Writing as HeaderFault
 use Rattle.apdu.specs.Laws as HeaderRead
+use Rattle.tags.specs.Types.{longest}
+use Rattle.tags.specs.Head.{headAt}
+use Rattle.tags.specs.Layout as Tags
 use Rattle.items.specs.Grammar as Items
+use Rattle.items.specs.Reading.{itemsOf, counted, itemAt, endOf}
 use Rattle.items.specs.Records.{thingsOf}
 use Rattle.items.specs.Listing.{Listed}
 use Rattle.items.specs.declared.Tally.{Tally}
-use Rattle.services.specs.Shows as Services
-use Rattle.services.specs.Layout as ServiceLayout
+use Rattle.items.specs.declared.One.{One as OneItem}
 use Rattle.item_judge.specs.Judge.{writeFault, recordsIn}
 use Rattle.item_judge.specs.Meaning.{ReadingOf, Writable}
-use mathlib.Core.Bool.{true, false}
-use Rattle.runs.specs.Run.Order.{trunk}
-use Rattle.runs.specs.Offered.{Offered}
-use Rattle.messages.specs.Slots.{Segment, part, room, boxed}
+use Rattle.reader.specs.Reading.{stepOf}
+use Rattle.reader.specs.declared.Reader.{Reader}
+use Rattle.reader.specs.declared.Step.{Step as ReaderStep}
+use Rattle.services.specs.Reading.{readService}
+use Rattle.services.specs.Shows as Services
+use Rattle.services.specs.Layout as ServiceLayout
+use Rattle.services.specs.declared.Answer as ServiceAnswer
+use Rattle.services.specs.declared.Service.{Service}
+use Rattle.service_writer.specs.Writing as ServiceWriter
+use Rattle.messages.specs.Slots.{Segment, Box, part, room, boxed, empty, slotAt}
 use Rattle.messages.specs.Rows.{rebuild}
 use Rattle.messages.specs.History.{begun, Rebuilt, touches}
-use Rattle.rebuild.specs.View.{keys}
+use Rattle.rebuild.specs.View.{keys, view, segmentOf}
+use Rattle.rebuild.specs.Calls as Rebuild
 use Rattle.rebuild.specs.declared.Key.{Key}
+use Rattle.rebuild.specs.declared.Slots.{Slots}
+use Rattle.rebuild.specs.declared.Segment.{Segment as Head}
+use Rattle.rebuild.specs.declared.Step.the-variants as Took
+use Rattle.rebuild.specs.declared.Taken.{Taken}
+use Rattle.rebuild.specs.declared.Forgot.{Forgot as Freed}
 use Rattle.recordings.specs.Frames.{rules, history, Completes}
+use Rattle.collector.specs.Report.{damaged}
 use Rattle.collector.specs.Frame.{bacnet, segmentAt}
-use Rattle.collector.specs.Calls.{box, slotsOf, freshCollector, Feeds, Stills, Forgets}
+use Rattle.collector.specs.Calls.{passing, slotsOf, freshCollector, written, saidSo, Feeds, Stills, Forgets}
 use Rattle.collector.specs.Offering.{Passes, End, Called}
 use Rattle.collector.specs.declared.Collector.{Collector}
 use Rattle.collector.specs.declared.Fed.{Fed}
 use Rattle.collector.specs.declared.Fell.{Fell}
 use Rattle.collector.specs.declared.Forgot.{Forgot}
+use Rattle.demands.specs.Words.{One, Between, SixtyThenFiftyNine, BrokenReceiver, Broken, Four, WritesBy, SegmentChanges, unfedBy, quietBy, FeedChanges, shownService}
 
 -- ---- DEMAND 1. "Every call, on any octets, records, slot numbers or areas, stays in bounds and ends. Bad input gets the refusal number that document 01
 -- fixes, and the call changes only what that page then lets it."
--- That each call stays in bounds, ends and keeps its promise is what the proof of its crate says: no public call has a `requires`. Here: that a promise
--- leaves nothing open, so that any two answers that it allows are equal.
+-- That each call stays in bounds, ends and keeps its promise on every input is what the proof of its crate says: no public call has a `requires`.
+-- Here: each call by its name and its promise, the numbers that it gives, and what it changes.
 
--- a promise that is an equation: check sums, the receiver, header readers, counting, one item
-abbrev pub EquationFixes : Type 1
-EquationFixes = (A : Type 0) (x r r′ : A) → r ≡ x → r′ ≡ x → r ≡ r′
+-- ---- 1a. "Every public call promises its full answer and the later contents of everything lent, refusals included; any two answers it allows are shown
+-- equal." A field for each call of README's table; the answer stands with what the call leaves in the areas that it was lent.
+pub record OneAnswer : Type 0 where
+  pub header-step : (reg octet : ℕ) → One ℕ (λ r. r ≡ headerStep reg octet)
+  pub header-run : (reg : ℕ) (s : List ℕ) → One ℕ (λ r. r ≡ headerRun reg s)
+  pub header-check : (s : List ℕ) → One ℕ (λ r. r ≡ headerCheck s)
+  pub data-step : (reg octet : ℕ) → One ℕ (λ r. r ≡ dataStep reg octet)
+  pub data-run : (reg : ℕ) (s : List ℕ) → One ℕ (λ r. r ≡ dataRun reg s)
+  pub data-check : (s : List ℕ) → One ℕ (λ r. r ≡ dataSent s)
+  pub receiver-fresh : One Receiver (λ r. r ≡ freshOf)
+  pub receiver-feed : (m : Receiver) (piece : List ℕ) → One ReceiverFed (λ r. r ≡ feedOf m piece)
+  pub receiver-silence : (m : Receiver) → One ReceiverFell (λ r. r ≡ silenceOf m)
+  pub npdu-read : (s : List ℕ) → One Reading (λ r. r ≡ readNpdu s)
+  pub npdu-write : (h : Npdu) (out : List ℕ) → One (Written × List ℕ) (λ x. Laid (NetworkFault.faultOf h) (Network.encode h) out (x .0) (x .1))
+  pub apdu-read : (s : List ℕ) → One Apdu.Answer (λ r. r ≡ readApdu s)
+  pub apdu-write : (p : Pdu) (out : List ℕ) → One (Written × List ℕ) (λ x. Laid (HeaderFault.faultOf p) (Header.header p) out (x .0) (x .1))
+  pub items-count : (s : List ℕ) → One Tally (λ r. r ≡ counted (itemsOf s))
+  pub items-list : (s out : List ℕ) → One (Tally × List ℕ) (λ x. Listed s out (x .0) (x .1))
+  pub items-item-at : (s : List ℕ) (at : ℕ) → One OneItem (λ r. r ≡ endOf (itemAt s at))
+  pub items-write : (records source out : List ℕ)
+      → One (Written × List ℕ) (λ x. Laid (writeFault records source) (Items.encodeAll (thingsOf source (recordsIn records))) out (x .0) (x .1))
+  pub services-read : (kind choice : ℕ) (s : List ℕ) → One ServiceAnswer.Answer (λ r. r ≡ readService kind choice s)
+  pub services-write : (v : Service) (value out : List ℕ)
+      → One (Written × List ℕ) (λ x. Laid (ServiceWriter.faultOf v value) (ServiceWriter.octetsOf v value) out (x .0) (x .1))
+  pub reader-new : (s : RefT (List ℕ)) → One Reader (λ r. (r .params ≡ s) × (r .at ≡ 0))
+  pub reader-next : (q : Reader) → One ReaderStep (λ r. r ≡ stepOf (now (q .params)) (q .at))
+  pub reader-moved : (q : Reader) (at : ℕ) → One Reader (λ r. (r .params ≡ q .params) × (r .at ≡ at))
+  pub reader-first : (s : List ℕ) → One ReaderStep (λ r. r ≡ stepOf s 0)
+  pub rebuild-take : (t : Slots) (g : Head) (o area : List ℕ) → One (Taken × List ℕ) (λ x. Rebuild.Gives (Rebuild.taking t g o area) (x .0) (x .1))
+  pub rebuild-forget : (t : Slots) (s : ℕ) → One Freed (λ r. Rebuild.Forgets t s r)
+  pub collector-fresh : One Collector (λ r. r ≡ freshCollector)
+  pub collector-feed : (c : Collector) (piece report area : List ℕ) → One (Fed × List ℕ × List ℕ) (λ x. Feeds c report area piece (x .0) (x .1) (x .2))
+  pub collector-silence : (c : Collector) (report : List ℕ) → One (Fell × List ℕ) (λ x. Stills c report (x .0) (x .1))
+  pub collector-forget : (c : Collector) (s : ℕ) → One Forgot (λ r. Forgets c s r)
 
--- a writer's promise fixes its answer and the whole later area: network header, APDU header, items, services
-abbrev pub WriterFixes : Type 0
-WriterFixes = (f : ℕ) (o area later later′ : List ℕ) (r r′ : Written) → Laid f o area r later → Laid f o area r′ later′ → (r ≡ r′) × (later ≡ later′)
+-- ---- 1b. "Bad input gets the refusal number that document 01 fixes": which numbers each call can give, and exactly when for those of areas and states.
 
--- and so does listing's
-abbrev pub ListingFixes : Type 0
-ListingFixes = (s area later later′ : List ℕ) (r r′ : Tally) → Listed s area r later → Listed s area r′ later′ → (r ≡ r′) × (later ≡ later′)
+-- the network header's reader: a header, or one of 10 to 14 with every other field 0
+abbrev pub NetworkNumbers : Type 0
+NetworkNumbers = (s : List ℕ) → (readNpdu s .refused ≡ 0) ⊎ (Between 10 14 (readNpdu s .refused) × (readNpdu s ≡ refusedBy (readNpdu s .refused)))
 
--- the collector's three calls: answer, state with every field, report area, message area
-abbrev pub FeedFixes : Type 0
-FeedFixes = (c : Collector) (report area piece : List ℕ) (f g : Fed) (report₁ area₁ report₂ area₂ : List ℕ)
-    → Feeds c report area piece f report₁ area₁ → Feeds c report area piece g report₂ area₂ → (f ≡ g) × (report₁ ≡ report₂) × (area₁ ≡ area₂)
+-- the APDU headers' reader: 20 to 24
+abbrev pub HeaderNumbers : Type 0
+HeaderNumbers = (s : List ℕ) (n : ℕ) → readApdu s ≡ Apdu.Answer.Refused n → Between 20 24 n
 
-abbrev pub SilenceFixes : Type 0
-SilenceFixes = (c : Collector) (report : List ℕ) (f g : Fell) (report₁ report₂ : List ℕ)
-    → Stills c report f report₁ → Stills c report g report₂ → (f ≡ g) × (report₁ ≡ report₂)
+-- counting: 30 to 39, and 39 exactly for "over 16,384 parameter octets (judged first)"
+abbrev pub CountNumbers : Type 0
+CountNumbers = (s : List ℕ) → ((n : ℕ) → counted (itemsOf s) ≡ Tally.Refused n → Between 30 39 n) × ((counted (itemsOf s) ≡ Tally.Refused 39) ↔ (longest < length s))
 
-abbrev pub ForgetFixes : Type 0
-ForgetFixes = (c : Collector) (s : ℕ) (f g : Forgot) → Forgets c s f → Forgets c s g → f ≡ g
+-- one item with its whole group, read by itself or by the reader value: 30 to 38
+abbrev pub ItemNumbers : Type 0
+ItemNumbers = (s : List ℕ) (at n : ℕ) → (endOf (itemAt s at) ≡ OneItem.Refused n → Between 30 38 n) × (stepOf s at ≡ ReaderStep.Refused n → Between 30 38 n)
+
+-- services: "Tag refusals 30 to 39 come before 43 and 40 to 42"; 43 exactly for a "choice not above for that PDU"
+abbrev pub ServiceNumbers : Type 0
+ServiceNumbers = (kind choice : ℕ) (s : List ℕ)
+    → ((n : ℕ) → counted (itemsOf s) ≡ Tally.Refused n → readService kind choice s ≡ ServiceAnswer.Answer.Refused n)
+    × ((k : ℕ) → counted (itemsOf s) ≡ Tally.Items k
+    → ((n : ℕ) → readService kind choice s ≡ ServiceAnswer.Answer.Refused n → Between 40 43 n)
+    × ((readService kind choice s ≡ ServiceAnswer.Answer.Refused 43) ↔ ((m : ServiceLayout.Message) → Services.For kind choice m → ⊥)))
+
+-- every writer refuses its fields first and a small area last, and changes nothing where it refuses; "nothing past a result is written"
+abbrev pub WritersRefuse : Type 0
+WritersRefuse = (f : ℕ) (o area later : List ℕ) (r : Written) → Laid f o area r later → WritesBy f o area r later
+
+-- the numbers of their fields: "Header writers refuse the first field in octet order that breaks a rule, with its number"; items 62; services "41 for a field
+-- too wide for its layout, else the number that reading their output would give". None is 61, so 61 is given exactly when nothing else is wrong and the area is
+-- too short.
+abbrev pub NetworkWriterNumbers : Type 0
+NetworkWriterNumbers = (h : Npdu) → (NetworkFault.faultOf h ≡ 0) ⊎ Between 12 14 (NetworkFault.faultOf h)
+
+abbrev pub HeaderWriterNumbers : Type 0
+HeaderWriterNumbers = (p : Pdu) → (HeaderFault.faultOf p ≡ 0) ⊎ Between 22 23 (HeaderFault.faultOf p)
+
+abbrev pub ServiceWriterNumbers : Type 0
+ServiceWriterNumbers = (v : Service) (value : List ℕ) → (ServiceWriter.faultOf v value ≡ 0) ⊎ Between 30 42 (ServiceWriter.faultOf v value)
+
+-- 62 is given exactly when no octets read as the records
+abbrev pub SixtyTwo : Type 0
+SixtyTwo = (records source : List ℕ) → Octets source
+    → ((writeFault records source ≡ 0) ⊎ (writeFault records source ≡ 62))
+    × (writeFault records source ≡ 62 → Writable records source → ⊥) × ((Writable records source → ⊥) → writeFault records source ≡ 62)
+
+abbrev pub SixtyOne : Type 0
+SixtyOne = (f : ℕ) (o area later : List ℕ) (r : Written) → (f ≡ 61 → ⊥) → Laid f o area r later → (r ≡ Refused 61) ↔ ((f ≡ 0) × (length area < length o))
+
+-- listing: counting's number, or 61 exactly where its 12 octets an item do not fit; refused, it leaves the area, else it changes 12 octets an item
+abbrev pub ListingRefuses : Type 0
+ListingRefuses = (s area later : List ℕ) (r : Tally) → Listed s area r later
+    → ((n : ℕ) → counted (itemsOf s) ≡ Tally.Refused n → (r ≡ Tally.Refused n) × (later ≡ area))
+    × ((k : ℕ) → counted (itemsOf s) ≡ Tally.Items k
+    → (length area < 12 * k → (r ≡ Tally.Refused 61) × (later ≡ area))
+    × (12 * k ≤ length area → (r ≡ Tally.Items k) × (length later ≡ length area) × (drop (12 * k) later ≡ drop (12 * k) area)))
+
+-- 59 and 60 in full: "60: report area not 16 octets or message area not 65,536", "59: a state .." (Words: Broken)
+abbrev pub ReceiverFeedNumbers : Type 0
+ReceiverFeedNumbers = (m : Receiver) (piece : List ℕ) → SixtyThenFiftyNine (feedOf m piece .refused) Unit (BrokenReceiver m)
+
+abbrev pub ReceiverSilenceNumbers : Type 0
+ReceiverSilenceNumbers = (m : Receiver) → SixtyThenFiftyNine (silenceOf m .refused) Unit (BrokenReceiver m)
+
+abbrev pub FeedNumbers : Type 0
+FeedNumbers = (c : Collector) (piece report area : List ℕ) (r : Fed) (report′ area′ : List ℕ) → Four c → Feeds c report area piece r report′ area′
+    → SixtyThenFiftyNine (r .refused) ((length report ≡ 16) × (length area ≡ 65536)) (Broken c)
+
+abbrev pub SilenceNumbers : Type 0
+SilenceNumbers = (c : Collector) (report : List ℕ) (r : Fell) (report′ : List ℕ) → Four c → Stills c report r report′
+    → SixtyThenFiftyNine (r .refused) (length report ≡ 16) (Broken c)
+
+-- "Forgetting frees a slot, answers 0, 59 or 56": 56 for "a slot not open or above 3"
+abbrev pub ForgetNumbers : Type 0
+ForgetNumbers = (c : Collector) (s : ℕ) (r : Forgot) → Four c → Forgets c s r
+    → ((r .number ≡ 59) ↔ Broken c)
+    × ((r .number ≡ 56) ↔ ((Broken c → ⊥) × ((slotAt keys (slotsOf c) s .used ≡ false) ⊎ (3 < s))))
+    × ((r .number ≡ 0) ↔ ((Broken c → ⊥) × (slotAt keys (slotsOf c) s .used ≡ true)))
+
+-- ---- 1c. "the call changes only what that page then lets it": "Nothing changes unless said."
+
+-- a call of the receiver that is refused, or is given no octets, eats nothing and changes nothing
+abbrev pub ReceiverKeeps : Type 0
+ReceiverKeeps = (m : Receiver) (piece : List ℕ)
+    → ((feedOf m piece .refused ≡ 0 → ⊥) → (feedOf m piece .eaten ≡ 0) × (feedOf m piece .outcome ≡ Quiet) × (feedOf m piece .receiver ≡ m))
+    × (feedOf m [] .eaten ≡ 0) × (feedOf m [] .outcome ≡ Quiet) × (feedOf m [] .receiver ≡ m)
+    × ((silenceOf m .refused ≡ 0 → ⊥) → (silenceOf m .outcome ≡ Quiet) × (silenceOf m .receiver ≡ m))
+
+-- "Feeding eats a piece's octets through the first that causes a report, else all": no more than are lent, all where nothing is reported, and some where there are some
+abbrev pub ReceiverEats : Type 0
+ReceiverEats = (m : Receiver) (piece : List ℕ) → feedOf m piece .refused ≡ 0
+    → (feedOf m piece .eaten ≤ length piece) × (feedOf m piece .outcome ≡ Quiet → feedOf m piece .eaten ≡ length piece) × (0 < length piece → 0 < feedOf m piece .eaten)
+
+-- the collector's three calls, refused: state, report area and message area stay, and nothing is eaten
+abbrev pub FeedRefused : Type 0
+FeedRefused = (c : Collector) (piece report area : List ℕ) (r : Fed) (report′ area′ : List ℕ) → Feeds c report area piece r report′ area′ → (r .refused ≡ 0 → ⊥)
+    → (r ≡ unfedBy (r .refused) c) × (report′ ≡ report) × (area′ ≡ area)
+
+abbrev pub SilenceRefused : Type 0
+SilenceRefused = (c : Collector) (report : List ℕ) (r : Fell) (report′ : List ℕ) → Stills c report r report′ → (r .refused ≡ 0 → ⊥)
+    → (r ≡ quietBy (r .refused) c) × (report′ ≡ report)
+
+abbrev pub ForgetRefused : Type 0
+ForgetRefused = (c : Collector) (s : ℕ) (r : Forgot) → Forgets c s r → (r .number ≡ 0 → ⊥) → r .state ≡ c
+
+-- a piece that is not refused: "Feeding eats a piece's octets through the first that causes a report, else all .. without a report that area is unchanged." A report
+-- is 16 octets; damage and a good frame without a segment leave slots and message area; a segment changes them as SegmentDoes says
+abbrev pub FeedDoes : Type 0
+FeedDoes = (c : Collector) (piece report area : List ℕ) (r : Fed) (report′ area′ : List ℕ) → Feeds c report area piece r report′ area′ → r .refused ≡ 0
+    → FeedChanges c report area (feedOf (c .receiver) piece) r report′ area′
+
+-- a segment: 50 to 53 change nothing, 54 and 55 free its key's slot and lay nothing, an accepted one lays its octets at its place of its slot and nowhere else
+abbrev pub SegmentDoes : Type 0
+SegmentDoes = (g : Segment Key) (b : Box Key) → let d = rebuild keys g b in SegmentChanges g b (d .answer) (d .box .slots) (d .box .area)
+
+-- rebuild::take does just that in an area of 65,536 octets; 60 exactly in any other, and nothing changes
+abbrev pub TakeDoes : Type 0
+TakeDoes = (t : Slots) (g : Head) (o area : List ℕ) (r : Taken) (later : List ℕ) → Rebuild.Gives (Rebuild.taking t g o area) r later
+    → ((r .answer ≡ Took.Refused 60) ↔ (length area ≡ 65536 → ⊥))
+    × (r .answer ≡ Took.Refused 60 → (r .slots ≡ t) × (later ≡ area))
+    × (length area ≡ 65536 → Rebuild.Gives (rebuild keys (segmentOf g o) (boxed (view t) area)) r later)
+
+-- a silence that is not refused: damage 4 is reported or nothing; slots stay
+abbrev pub SilenceDoes : Type 0
+SilenceDoes = (c : Collector) (report : List ℕ) (r : Fell) (report′ : List ℕ) → Stills c report r report′ → r .refused ≡ 0
+    → (let x = hurtBy damaged (silenceOf (c .receiver) .outcome) in
+    (r .reported ≡ saidSo x) × (report′ ≡ written x report) × (r .state .receiver ≡ silenceOf (c .receiver) .receiver) × (r .state .slots ≡ c .slots))
+
+-- forgetting, the collector's and rebuild's own, frees that slot and leaves all else
+abbrev pub ForgetDoes : Type 0
+ForgetDoes = (c : Collector) (s : ℕ) (r : Forgot) → Forgets c s r → r .number ≡ 0
+    → (r .state .receiver ≡ c .receiver) × (slotsOf (r .state) ≡ set (slotsOf c) s (empty keys))
+
+abbrev pub FreeDoes : Type 0
+FreeDoes = (t : Slots) (s : ℕ) (r : Freed) → Rebuild.Forgets t s r
+    → (slotAt keys (view t) s .used ≡ true → (r .number ≡ 0) × (view (r .slots) ≡ set (view t) s (empty keys)))
+    × (slotAt keys (view t) s .used ≡ false → (r .number ≡ 56) × (r .slots ≡ t))
+
+-- a segment changes no octet of another slot
+abbrev pub OthersStay : Type 0
+OthersStay = (c : Collector) (area : List ℕ) → Passes c → length area ≡ 65536 → (g : Segment Key) (j : ℕ) → j < 4
+    → (let d = rebuild keys g (boxed (slotsOf c) area) in touches (d .answer) j ≡ false → part (room * j) room (d .box .area) ≡ part (room * j) room area)
 
 -- ---- DEMAND 2. "Frames, headers, tags and parameters are accepted exactly when ASHRAE 135, as document 01 condenses it, accepts them. Headers, tags and
 -- parameters that were read write back to the same octets; what was written reads back as the same items."
 
--- a check octet is taken exactly when it is the one sent
+-- ---- frames: a check octet is taken exactly when it is the one sent
 abbrev pub HeaderCheckExact : Type 0
 HeaderCheckExact = (xs : List ℕ) (c : ℕ) → c < 256 → (headerRun headerStart (xs ++ (c ∷ [])) ≡ headerLeft) ↔ (c ≡ headerCheck xs)
 
@@ -98,49 +280,72 @@ abbrev pub FramesExact : Type 0
 FramesExact = (r : Receiver) → Sound r → (es : List Event) → Bytes (came (heldOf r) ++ es) → (q : ℕ) (h d : List ℕ)
     → (ended q (readFrom r es) ≡ some (good h d)) ↔ FrameAt (keptOf r) (came (heldOf r) ++ es) q h d
 
--- the network header: read with what follows it exactly when its rules hold and its layout stands in front
+-- ---- the network header: read with what follows it exactly when its rules hold and its layout stands in front
 abbrev pub NetworkExact : Type 0
 NetworkExact = Exactly NetworkRead.Reads NetworkRead.ValidFirst NetworkRead.encodeAll
+
+-- a header that was read is written, in an area that is long enough, as the octets that it was read from
+abbrev pub NetworkWritesBack : Type 0
+NetworkWritesBack = (s area later : List ℕ) (r : Written) → Octets s → readNpdu s .refused ≡ 0 → readNpdu s .next ≤ length area
+    → Laid (NetworkFault.faultOf (readNpdu s .head)) (Network.encode (readNpdu s .head)) area r later
+    → (r ≡ Wrote (readNpdu s .next)) × (later ≡ take (readNpdu s .next) s ++ drop (readNpdu s .next) area)
 
 -- what the writer wrote reads back, absent parts shown as 0
 abbrev pub NetworkReadsBack : Type 0
 NetworkReadsBack = (h : Npdu) (n : ℕ) (area later : List ℕ) → Network.Kept h → Laid (NetworkFault.faultOf h) (Network.encode h) area (Wrote n) later
     → readNpdu later ≡ NetworkRead.accepted n (Network.shown h)
 
--- the eight APDU headers, each with its parameters
+-- ---- the eight APDU headers, each with its parameters
 abbrev pub HeadersExact : Type 0
 HeadersExact = Exactly HeaderRead.Reads Header.Valid Header.encode
 
+abbrev pub HeadersWriteBack : Type 0
+HeadersWriteBack = (s area later : List ℕ) (p : Pdu) (r : Written) → readApdu s ≡ Apdu.Answer.Good p → paramsAt p ≤ length area
+    → Laid (HeaderFault.faultOf p) (Header.header p) area r later → (r ≡ Wrote (paramsAt p)) × (later ≡ take (paramsAt p) s ++ drop (paramsAt p) area)
+
 abbrev pub HeadersReadBack : Type 0
 HeadersReadBack = (p : Pdu) (n : ℕ) (area later t : List ℕ) → Laid (HeaderFault.faultOf p) (Header.header p) area (Wrote n) later → Header.Follows p t
-    → readApdu (take n later ++ t) ≡ Good (HeaderFault.shown p)
+    → readApdu (take n later ++ t) ≡ Apdu.Answer.Good (HeaderFault.shown p)
 
-abbrev pub HeadersWriteBack : Type 0
-HeadersWriteBack = (s area later : List ℕ) (p : Pdu) (r : Written) → readApdu s ≡ Good p → paramsAt p ≤ length area
-    → Laid (HeaderFault.faultOf p) (Header.header p) area r later → (r ≡ Wrote (paramsAt p)) × (later ≡ take (paramsAt p) s ++ drop (paramsAt p) area)
+-- ---- tags: one tag with its contents is read at a place exactly when an item that keeps the rules stands there
+abbrev pub TagsExact : Type 0
+TagsExact = (s : List ℕ) → Octets s → (at : ℕ)
+    → (Tags.Good (headAt s at) → Tags.Stands s at (headAt s at)) × ((t : Tags.Thing) → Tags.Valid t → Has s at (Tags.encode t) → headAt s at ≡ Tags.tagOf at t)
 
 -- tag items: octets are read as these items exactly when the items keep the grammar and the octets are their encoding
 abbrev pub ItemsExact : Type 0
 ItemsExact = Exactly Items.Reads Items.Grammar Items.encodeAll
 
--- 62 is given exactly when no octets read as the records
-abbrev pub SixtyTwo : Type 0
-SixtyTwo = (area source : List ℕ) → Octets source → (writeFault area source ≡ 62 → Writable area source → ⊥) × ((Writable area source → ⊥) → writeFault area source ≡ 62)
-
--- what listing listed, with the octets as the source, writes back to the same octets
+-- what listing listed, with the octets as the source, is written as the same octets
 abbrev pub ItemsWriteBack : Type 0
-ItemsWriteBack = (o lent listed : List ℕ) (n : ℕ) → Octets o → Listed o lent (Tally.Items n) listed
-    → (writeFault (take (12 * n) listed) o ≡ 0) × (Items.encodeAll (thingsOf o (recordsIn (take (12 * n) listed))) ≡ o)
+ItemsWriteBack = (o lent listed area later : List ℕ) (n : ℕ) (r : Written) → Octets o → Listed o lent (Tally.Items n) listed → length o ≤ length area
+    → (let records = take (12 * n) listed in Laid (writeFault records o) (Items.encodeAll (thingsOf o (recordsIn records))) area r later
+    → (r ≡ Wrote (length o)) × (later ≡ o ++ drop (length o) area))
 
 -- what was written reads back as the same items, places apart
 abbrev pub ItemsReadBack : Type 0
-ItemsReadBack = (area source out : List ℕ) (n : ℕ) (later : List ℕ) → Octets source
-    → Laid (writeFault area source) (Items.encodeAll (thingsOf source (recordsIn area))) out (Wrote n) later → ReadingOf source (recordsIn area) (take n later)
+ItemsReadBack = (records source area : List ℕ) (n : ℕ) (later : List ℕ) → Octets source
+    → Laid (writeFault records source) (Items.encodeAll (thingsOf source (recordsIn records))) area (Wrote n) later → ReadingOf source (recordsIn records) (take n later)
 
--- the services: for every kind of PDU and choice, octets are read as a service that shows this message exactly when the message is of that kind and choice,
+-- ---- the services: for every kind of PDU and choice, octets are read as a service that shows this message exactly when the message is of that kind and choice,
 -- keeps its rules, and the octets are its layout
 abbrev pub ServicesExact : Type 0
 ServicesExact = (kind choice : ℕ) → Exactly (Services.Shows kind choice) (Services.ValidFor kind choice) ServiceLayout.encode
+
+-- a service that was read is written, with the octets of its value, as the octets that it was read from
+abbrev pub ServicesWriteBack : Type 0
+ServicesWriteBack = (kind choice : ℕ) (o area later : List ℕ) (v : Service) (r : Written) → Octets o → readService kind choice o ≡ ServiceAnswer.Answer.Good v → length o ≤ length area
+    → (let value = ServiceWriter.valueIn o v in Laid (ServiceWriter.faultOf v value) (ServiceWriter.octetsOf v value) area r later
+    → (r ≡ Wrote (length o)) × (later ≡ o ++ drop (length o) area))
+
+-- what keeps the rules, absent parts taken as 0, is written wherever the area is long enough, and reads back as the same message
+abbrev pub ServicesReadBack : Type 0
+ServicesReadBack = (v : Service) (ts : List Tags.Thing) (area later : List ℕ) (r : Written)
+    → (let value = Items.encodeAll ts in
+    let m = Services.messageOf (shownService v) ts in
+    Services.ValidFor (ServiceWriter.kindOf v) (ServiceWriter.choiceOf v) m → length (ServiceWriter.octetsOf v value) ≤ length area
+    → Laid (ServiceWriter.faultOf v value) (ServiceWriter.octetsOf v value) area r later
+    → (n : ℕ) × (r ≡ Wrote n) × Services.Shows (ServiceWriter.kindOf v) (ServiceWriter.choiceOf v) (take n later) m)
 
 -- ---- DEMAND 3. "From one state that refusal 59 passes and one message area, fix one run of trunk octets with silences and forget orders at fixed places. Cut the
 -- octets anywhere, offer the rest again after each report, lend areas of the right sizes that nobody else writes. Then reports, final state and message area are
@@ -153,13 +358,16 @@ abbrev pub ReadByPosition : Type 0
 ReadByPosition = (c : Collector) (area : List ℕ) → Passes c → length area ≡ 65536 → (run : Run) (e : End)
     → Called (length (heldOf (c .receiver))) c area run e → e ≡ reading (rules keys bacnet) (c .receiver) (slotsOf c) area run
 
--- every run can be offered, so the sentence is not empty; a fresh collector passes 59, and so does every state that a run reaches
+-- every run can be offered by these calls, so the sentence is not empty; a fresh collector passes 59, and so does every state that a run reaches
 abbrev pub CanBeOffered : Type 0
-CanBeOffered = (c : Collector) (area : List ℕ) → Passes c → length area ≡ 65536 → (run : Run)
-    → (e : End) × Offered box (length (heldOf (c .receiver))) (c .receiver) (slotsOf c) area run e
+CanBeOffered = (c : Collector) (area : List ℕ) → Passes c → length area ≡ 65536 → (run : Run) → (e : End) × Called (length (heldOf (c .receiver))) c area run e
 
 abbrev pub FreshPasses : Type 0
 FreshPasses = Passes freshCollector
+
+abbrev pub ReachedPasses : Type 0
+ReachedPasses = (c : Collector) (area : List ℕ) → Passes c → length area ≡ 65536 → (p : ℕ) (run : Run) (e : End) → Called p c area run e
+    → Sound (e .state) × (passing (e .slots) ≡ true) × (length (e .area) ≡ 65536)
 
 -- the second sentence, at the place where a message's last segment ends: its slot's octets are the accepted segments of its key since the latest segment 0,
 -- in number order, and the length is theirs. The history is read off the recording; a completed message with bad tags is completed too.
@@ -171,8 +379,3 @@ MessagesWhole = (c : Collector) (area : List ℕ) → Passes c → length area �
     ended (p + length (wire front)) t ≡ some o → segmentAt o ≡ some g → (k : Key) (i n : ℕ)
     → (let log = history keys bacnet t p (slotsOf c) area run in
     Completes log k i n → begun keys k log ≡ true → Rebuilt keys k log (walk (rules keys bacnet) t p (slotsOf c) area run .area) i n))
-
--- a segment changes no octet of another slot
-abbrev pub OthersStay : Type 0
-OthersStay = (c : Collector) (area : List ℕ) → Passes c → length area ≡ 65536 → (g : Segment Key) (j : ℕ) → j < 4
-    → (let d = rebuild keys g (boxed (slotsOf c) area) in touches (d .answer) j ≡ false → part (room * j) room (d .box .area) ≡ part (room * j) room area)

@@ -1,27 +1,31 @@
--- How the calls of a trunk come to what they promise: a refusal before the collector's call, or that call between a load and a save.
+-- How the calls of a trunk come to what they promise: a refusal before the collector's call, or that call over what the state area holds.
 use Prim.Native.Nat.{ℕ}
 use mathlib.Core.Path.{_≡_, sym, ap, _∙_}
 use mathlib.Core.Bool.{true}
 use mathlib.Core.List.{List, []}
-use lib.ListN.{length}
+use lib.ListN.{length, take, drop}
 use native.Mathlib.Omega.{arith}
 use borrow.Author.Tests.{eq-eqb, ne-eqb}
+use Rattle.octets.specs.Reading.{Octets}
 use Rattle.frames.specs.declared.Receiver.{Receiver}
 use Rattle.messages.specs.Slots as Messages
 use Rattle.rebuild.specs.View.{unview}
 use Rattle.rebuild.specs.declared.Key.{Key}
+use Rattle.rebuild.specs.declared.Slots.{Slots}
 use Rattle.rebuild.proofs.Seen.{unview-view}
 use Rattle.collector.specs.Calls as Calls
 use Rattle.collector.specs.Calls.{slotsOf, feedRefusal, feeding, silenceRefusal, stilling}
+use Rattle.collector.specs.Lent.{over, fedOver, Eats, fellOver, Hushes, forgotOver, Frees}
 use Rattle.collector.specs.declared.Collector.{Collector}
-use Rattle.collector.specs.declared.Fed.{Fed}
-use Rattle.collector.specs.declared.Fell.{Fell}
-use Rattle.collector.specs.declared.Forgot.{Forgot}
+use Rattle.collector.specs.declared.lent.Ate.{Ate}
+use Rattle.collector.specs.declared.lent.Hushed.{Hushed}
+use Rattle.collector.specs.declared.lent.Freed.{Freed}
 use Rattle.records.specs.Flag.{flag}
-use Rattle.state.specs.Layout.{stateSize, stateOctets}
-use Rattle.state.specs.Calls.{loadOf, Loads, Saves}
-use Rattle.state.specs.declared.Loaded.{Loaded}
-use Rattle.state.proofs.Exact.{accepted-size}
+use Rattle.state.specs.Layout.{stateOctets}
+use Rattle.state.specs.Calls.{loadOf, liftOf}
+use Rattle.state.specs.declared.Lifted.{Lifted}
+use Rattle.state.proofs.Exact.{accepted-size, accepted-store}
+use Rattle.state.proofs.Places.{Holds, accepted-holds, holds-octets, holds-loads}
 use Rattle.hitchbarley.specs.Trunk.{Left, barred, stateBy, stateOf, passed, bar, inside, feedBar, feedLeft, silenceBar, silenceLeft, forgetNumberOf, forgotten, forgetLeft, Feeds, Stills, Forgets}
 
 -- a state by its parts
@@ -49,11 +53,26 @@ report-of e = sym (ap (λ (d : Left). d .report) e)
 area-of : {a b : Left} → a ≡ b → b .area ≡ a .area
 area-of e = sym (ap (λ (d : Left). d .area) e)
 
--- what a save left, where the state area was accepted
-saved : (state state′ : List ℕ) (c : Collector) (r : ℕ) → loadOf state .refused ≡ 0 → Saves c state r state′ → (state′ ≡ stateOctets c) × Loads state′ c
-saved state state′ c r z s =
-    let k = accepted-size state z in
-    (rw (eq-eqb (length state) stateSize k) at (s .after), s .again k)
+-- what is lifted: link and slots by value, the store in its place
+pub lifted-holds : (state : List ℕ) → Octets state → {w : Lifted} → w ≡ liftOf state → w .refused ≡ 0 → Holds state (over (w .link) (w .slots) (take 501 (drop 9 state)))
+unfolding liftOf
+lifted-holds state os e z =
+    let y : loadOf state .refused ≡ 0 = rw e at z in
+    rw (e, accepted-store state y) (accepted-holds state os y)
+
+lifted-inside : (state : List ℕ) {w : Lifted} → w ≡ liftOf state → w .refused ≡ 0 → over (w .link) (w .slots) (take 501 (drop 9 state)) ≡ inside state
+unfolding liftOf
+lifted-inside state e z =
+    let y : loadOf state .refused ≡ 0 = rw e at z in
+    rw (e, accepted-store state y)
+
+pub lifted-size : (state : List ℕ) {w : Lifted} → w ≡ liftOf state → w .refused ≡ 0 → length state ≡ 546
+unfolding liftOf
+lifted-size state e z = accepted-size state (rw e at z)
+
+lifted-number : (state : List ℕ) {w : Lifted} → w ≡ liftOf state → loadOf state .refused ≡ w .refused
+unfolding liftOf
+lifted-number state e = sym (ap (λ (x : Lifted). x .refused) e)
 
 -- ---- feeding
 module _ (state report area piece : List ℕ) where
@@ -79,32 +98,32 @@ module _ (state report area piece : List ℕ) where
   unfolding feedBar bar
   feeds-area k h = feeds-barred 60 (rw (eq-eqb (length report) 16 k, ne-eqb (length area) 65536 h)) (λ z. omega arith)
 
-  module _ (k : length report ≡ 16) (m : length area ≡ 65536) (l : Loaded) (e : l ≡ loadOf state) where
-    sizes : feedBar state report area ≡ l .refused
+  module _ (k : length report ≡ 16) (m : length area ≡ 65536) (w : Lifted) (e : w ≡ liftOf state) where
+    sizes : feedBar state report area ≡ w .refused
     unfolding feedBar bar
-    sizes = rw (eq-eqb (length report) 16 k, eq-eqb (length area) 65536 m, e)
+    sizes = rw (eq-eqb (length report) 16 k, eq-eqb (length area) 65536 m) (lifted-number state e)
 
-    pub feeds-not : (l .refused ≡ 0 → ⊥) → Feeds state report area piece (l .refused) 0 0 state report area
-    feeds-not h = feeds-barred (l .refused) sizes h
+    pub feeds-not : (w .refused ≡ 0 → ⊥) → Feeds state report area piece (w .refused) 0 0 state report area
+    feeds-not h = feeds-barred (w .refused) sizes h
 
-    pub feeds-on : l .refused ≡ 0 → {f : Fed} {r : ℕ} {state′ report′ area′ : List ℕ} → Calls.Feeds (l .state) report area piece f report′ area′ → Saves (f .state) state r state′
-        → Feeds state report area piece (f .refused) (f .eaten) (flag (f .reported)) state′ report′ area′
+    pub feeds-on : w .refused ≡ 0 → {f : Ate} {t : Slots} {s state′ report′ area′ : List ℕ} → Eats (w .link) (w .slots) (take 501 (drop 9 state)) report area piece f s report′ area′
+        → f .slots ≡ t → Holds state′ (over (f .link) t s) → Feeds state report area piece (f .refused) (f .eaten) (flag (f .reported)) state′ report′ area′
     unfolding feedLeft
-    feeds-on z {f} {r} {state′} {report′} {area′} t s =
+    feeds-on z {f} {t} {s} {state′} {report′} {area′} y g h =
         let d = feeding (inside state) report area piece in
-        let i : l .state ≡ inside state = ap (λ (x : Loaded). x .state) e in
-        let t′ : Calls.Feeds (inside state) report area piece f report′ area′ = rw i at t in
+        let c : Collector = fedOver f s .state in
+        let y′ : Calls.Feeds (inside state) report area piece (fedOver f s) report′ area′ = rw (lifted-inside state e z) at (y .feeds) in
         let q : feedLeft state report area piece ≡ passed (feedRefusal (inside state) report area) d report = rw (sizes, z) in
-        let w : f .state ≡ stateOf d = whole (f .state) (d .state) (d .slots) (t′ .receiver) (t′ .slots) in
-        let y = saved state state′ (f .state) r (rw e at z) s in
+        let v : c ≡ stateOf d = whole c (d .state) (d .slots) (y′ .receiver) (y′ .slots) in
+        let h′ : Holds state′ (stateOf d) = rw (← v, g) h in
         record {
-          number = t′ .refused ∙ number-of q;
-          ate = t′ .eaten ∙ eaten-of q;
-          spoke = ap flag (t′ .reported) ∙ reported-of q;
-          stateAfter = y .0 ∙ ap stateOctets w ∙ state-of q;
-          reportAfter = t′ .reportAfter ∙ report-of q;
-          areaAfter = t′ .areaAfter ∙ area-of q;
-          again = λ b. rw w at (y .1);
+          number = y′ .refused ∙ number-of q;
+          ate = y′ .eaten ∙ eaten-of q;
+          spoke = ap flag (y′ .reported) ∙ reported-of q;
+          stateAfter = holds-octets h′ ∙ state-of q;
+          reportAfter = y′ .reportAfter ∙ report-of q;
+          areaAfter = y′ .areaAfter ∙ area-of q;
+          again = λ b. holds-loads h′;
         }
 
 -- ---- a silence
@@ -119,50 +138,53 @@ module _ (state report : List ℕ) where
   unfolding silenceBar bar
   stills-line h = stills-barred 60 (rw (ne-eqb (length report) 16 h)) (λ z. omega arith)
 
-  module _ (k : length report ≡ 16) (l : Loaded) (e : l ≡ loadOf state) where
-    silence-sizes : silenceBar state report ≡ l .refused
+  module _ (k : length report ≡ 16) (w : Lifted) (e : w ≡ liftOf state) where
+    silence-sizes : silenceBar state report ≡ w .refused
     unfolding silenceBar bar
-    silence-sizes = rw (eq-eqb (length report) 16 k, e)
+    silence-sizes = rw (eq-eqb (length report) 16 k) (lifted-number state e)
 
-    pub stills-not : (l .refused ≡ 0 → ⊥) → Stills state report (l .refused) 0 state report
-    stills-not h = stills-barred (l .refused) silence-sizes h
+    pub stills-not : (w .refused ≡ 0 → ⊥) → Stills state report (w .refused) 0 state report
+    stills-not h = stills-barred (w .refused) silence-sizes h
 
-    pub stills-on : l .refused ≡ 0 → {f : Fell} {r : ℕ} {state′ report′ : List ℕ} → Calls.Stills (l .state) report f report′ → Saves (f .state) state r state′
-        → Stills state report (f .refused) (flag (f .reported)) state′ report′
+    pub stills-on : w .refused ≡ 0 → {f : Hushed} {state′ report′ : List ℕ} → Hushes (w .link) (w .slots) report f report′
+        → Holds state′ (over (f .link) (w .slots) (take 501 (drop 9 state))) → Stills state report (f .refused) (flag (f .reported)) state′ report′
     unfolding silenceLeft
-    stills-on z {f} {r} {state′} {report′} t s =
+    stills-on z {f} {state′} {report′} y h =
+        let s = take 501 (drop 9 state) in
         let d = stilling (inside state) report [] in
-        let i : l .state ≡ inside state = ap (λ (x : Loaded). x .state) e in
-        let t′ : Calls.Stills (inside state) report f report′ = rw i at t in
+        let c : Collector = fellOver f (w .slots) s .state in
+        let y′ : Calls.Stills (inside state) report (fellOver f (w .slots) s) report′ = rw (lifted-inside state e z) at (y s) in
         let q : silenceLeft state report ≡ passed (silenceRefusal (inside state) report) d report = rw (silence-sizes, z) in
-        let w : f .state ≡ stateOf d = whole (f .state) (d .state) (d .slots) (t′ .receiver) (t′ .slots) in
-        let y = saved state state′ (f .state) r (rw e at z) s in
+        let v : c ≡ stateOf d = whole c (d .state) (d .slots) (y′ .receiver) (y′ .slots) in
+        let h′ : Holds state′ (stateOf d) = rw (← v) h in
         record {
-          number = t′ .refused ∙ number-of q;
-          spoke = ap flag (t′ .reported) ∙ reported-of q;
-          stateAfter = y .0 ∙ ap stateOctets w ∙ state-of q;
-          reportAfter = t′ .reportAfter ∙ report-of q;
-          again = λ b. rw w at (y .1);
+          number = y′ .refused ∙ number-of q;
+          spoke = ap flag (y′ .reported) ∙ reported-of q;
+          stateAfter = holds-octets h′ ∙ state-of q;
+          reportAfter = y′ .reportAfter ∙ report-of q;
+          again = λ b. holds-loads h′;
         }
 
 -- ---- forgetting
-module _ (state : List ℕ) (s : ℕ) (l : Loaded) (e : l ≡ loadOf state) where
-  open-sizes : bar true state ≡ l .refused
+module _ (state : List ℕ) (i : ℕ) (w : Lifted) (e : w ≡ liftOf state) where
+  forget-sizes : bar true state ≡ w .refused
   unfolding bar
-  open-sizes = rw e
+  forget-sizes = lifted-number state e
 
-  pub forgets-not : (l .refused ≡ 0 → ⊥) → Forgets state s (l .refused) state
+  pub forgets-not : (w .refused ≡ 0 → ⊥) → Forgets state i (w .refused) state
   unfolding forgetLeft
   forgets-not h =
-      let q : forgetLeft state s ≡ barred (l .refused) state [] [] = rw (open-sizes, ne-eqb (l .refused) 0 h) in
-      record { number = number-of q; stateAfter = state-of q; again = λ z. absurd (h (sym open-sizes ∙ z)) }
+      let q : forgetLeft state i ≡ barred (w .refused) state [] [] = rw (forget-sizes, ne-eqb (w .refused) 0 h) in
+      record { number = number-of q; stateAfter = state-of q; again = λ z. absurd (h (sym forget-sizes ∙ z)) }
 
-  pub forgets-on : l .refused ≡ 0 → {f : Forgot} {r : ℕ} {state′ : List ℕ} → Calls.Forgets (l .state) s f → Saves (f .state) state r state′ → Forgets state s (f .number) state′
+  pub forgets-on : w .refused ≡ 0 → {f : Freed} {state′ : List ℕ} → Frees (w .link) (w .slots) i f → Holds state′ (over (w .link) (f .slots) (take 501 (drop 9 state)))
+      → Forgets state i (f .number) state′
   unfolding forgetLeft forgetNumberOf
-  forgets-on z {f} {r} {state′} t v =
-      let i : l .state ≡ inside state = ap (λ (x : Loaded). x .state) e in
-      let t′ : Calls.Forgets (inside state) s f = rw i at t in
-      let q : forgetLeft state s ≡ record { number = forgetNumberOf (inside state) s; eaten = 0; reported = 0; state = stateOctets (forgotten (inside state) s); report = []; area = [] } = rw (open-sizes, z) in
-      let w : f .state ≡ forgotten (inside state) s = whole (f .state) _ _ (t′ .receiver) (t′ .slots) in
-      let y = saved state state′ (f .state) r (rw e at z) v in
-      record { number = t′ .number ∙ number-of q; stateAfter = y .0 ∙ ap stateOctets w ∙ state-of q; again = λ b. rw w at (y .1) }
+  forgets-on z {f} {state′} y h =
+      let s = take 501 (drop 9 state) in
+      let y′ : Calls.Forgets (inside state) i (forgotOver f (w .link) s) = rw (lifted-inside state e z) at (y s) in
+      let q : forgetLeft state i ≡ record { number = forgetNumberOf (inside state) i; eaten = 0; reported = 0; state = stateOctets (forgotten (inside state) i); report = []; area = [] } = rw (forget-sizes, z) in
+      let c : Collector = forgotOver f (w .link) s .state in
+      let v : c ≡ forgotten (inside state) i = whole c _ _ (y′ .receiver) (y′ .slots) in
+      let h′ : Holds state′ (forgotten (inside state) i) = rw (← v) h in
+      record { number = y′ .number ∙ number-of q; stateAfter = holds-octets h′ ∙ state-of q; again = λ b. holds-loads h′ }

@@ -1,5 +1,6 @@
 // One trunk: its state is 546 octets that the caller lends.
 use collector::Collector;
+use collector::lent;
 ghost use Rattle.collector.specs.Calls.{freshCollector};
 ghost use Rattle.state.specs.Calls.{Saves};
 ghost use Rattle.hitchbarley.specs.Trunk.{Feeds, Stills, Forgets};
@@ -32,17 +33,23 @@ pub extern "C" fn hb_feed(
     if area.len() != 65536 {
         return 60;
     }
-    let l = state::load(state);
-    let n = l.refused;
+    let o = state::lift(state);
+    let n = o.refused;
     if n != 0 {
         return n;
     }
-    let c = l.state;
-    let f = c.feed(piece, report, area);
-    let later = f.state;
-    state::save(later, state);
+    let link = o.link;
+    let slots = o.slots;
+    let f = lent::feed(link, slots, &mut state[9..510], piece, report, area);
+    let link = f.link;
+    state::lay_link(link, state);
     *eaten = f.eaten;
     *reported = f.reported as u8;
+    if f.moved {
+        let slots = f.slots;
+        state::lay_slots(slots, state);
+        return f.refused;
+    }
     f.refused
 }
 
@@ -55,15 +62,16 @@ pub extern "C" fn hb_silence(state: &mut [u8], report: &mut [u8], reported: &mut
     if report.len() != 16 {
         return 60;
     }
-    let l = state::load(state);
-    let n = l.refused;
+    let o = state::lift(state);
+    let n = o.refused;
     if n != 0 {
         return n;
     }
-    let c = l.state;
-    let f = c.silence(report);
-    let later = f.state;
-    state::save(later, state);
+    let link = o.link;
+    let slots = o.slots;
+    let f = lent::silence(link, slots, report);
+    let link = f.link;
+    state::lay_link(link, state);
     *reported = f.reported as u8;
     f.refused
 }
@@ -73,14 +81,15 @@ pub extern "C" fn hb_silence(state: &mut [u8], report: &mut [u8], reported: &mut
 pub extern "C" fn hb_forget(state: &mut [u8], slot: u8) -> u8
     ensures { λ r. ⌜ Forgets (now (state .entry)) slot r (now (state .exit)) ⌝ }
 {
-    let l = state::load(state);
-    let n = l.refused;
+    let o = state::lift(state);
+    let n = o.refused;
     if n != 0 {
         return n;
     }
-    let c = l.state;
-    let f = c.forget(slot);
-    let later = f.state;
-    state::save(later, state);
+    let link = o.link;
+    let slots = o.slots;
+    let f = lent::forget(link, slots, slot);
+    let slots = f.slots;
+    state::lay_slots(slots, state);
     f.number
 }

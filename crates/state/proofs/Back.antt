@@ -13,9 +13,9 @@ use Rattle.frames.specs.declared.Phase.the-variants.{Hunting, Preamble, Header,
 use Rattle.rebuild.specs.declared.Slot.{Slot}
 use Rattle.collector.specs.declared.Collector.{Collector}
 use Rattle.records.specs.Flag.{flag}
-use Rattle.state.specs.Layout.{phaseOctets, slotOctets, slotsOctets, stateOctets, Fits}
+use Rattle.state.specs.Layout.{phaseOctets, slotOctets, slotsOctets, stateOctets}
 use Rattle.state.specs.Calls.{phaseGood, phaseAt, slotsGood, slotAt, stateGood, stateAt}
-use Rattle.state.proofs.Parts.{phase-size}
+use Rattle.state.proofs.Parts.{Shaped, phase-size}
 
 two-back : (v : ℕ) → v / 256 * 256 + v % 256 ≡ v
 two-back v = omega arith
@@ -60,7 +60,7 @@ slots-back o (x ∷ y ∷ z ∷ w ∷ []) l b h =
 slots-back o (x ∷ y ∷ z ∷ w ∷ v ∷ u) l b h = absurd (omega arith)
 
 -- all of it
-pub state-back : (o : List ℕ) (c : Collector) → Fits c → 546 ≤ length o → Has o 0 (stateOctets c) → (stateAt o ≡ c) × (stateGood o ≡ true)
+pub state-back : (o : List ℕ) (c : Collector) → Shaped c → 546 ≤ length o → Has o 0 (stateOctets c) → (stateAt o ≡ c) × (stateGood o ≡ true)
 unfolding stateOctets stateAt stateGood
 state-back o c f b h =
     let l = c .receiver .link in

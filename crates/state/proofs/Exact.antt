@@ -4,7 +4,7 @@ use native.Mathlib.Omega.{arith}
 use mathlib.Core.Path.{_≡_, ap, subst, _∙_}
 use mathlib.Core.List.{List}
 use lib.Dec.{eqb}
-use lib.ListN.{length}
+use lib.ListN.{length, take, drop}
 use borrow.Author.Tests.{eq-eqb, eqb-true}
 use Rattle.octets.specs.Choice.{pick-so, by-test}
 use Rattle.octets.specs.Reading.{Octets}
@@ -12,19 +12,22 @@ use Rattle.octets.specs.Has.{all-has}
 use Rattle.octets.specs.Exact.{Exactly}
 use Rattle.collector.specs.declared.Collector.{Collector}
 use Rattle.collector.specs.Calls.{freshCollector}
-use Rattle.state.specs.declared.Loaded.{Loaded}
 use Rattle.state.specs.Layout.{stateSize, stateOctets, Fits}
-use Rattle.state.specs.Calls.{stateGood, stateAt, loaded, loadOf, Loads}
+use Rattle.state.specs.Calls.{stateGood, stateAt, Loaded, loaded, loadOf, Loads}
+use Rattle.state.proofs.Parts.{Shaped, fits-shaped}
 use Rattle.state.proofs.Back.{state-back}
 use Rattle.state.proofs.Stands.{state-size, state-fits, state-stands}
 
 -- the state's octets are loaded as it
-pub loads-back : (c : Collector) → Fits c → Loads (stateOctets c) c
+pub shaped-loads : (c : Collector) → Shaped c → Loads (stateOctets c) c
 unfolding loadOf
-loads-back c f =
+shaped-loads c f =
     let n = state-size c f in
     let b = state-back (stateOctets c) c f (omega arith) (all-has (stateOctets c)) in
     rw (eq-eqb (length (stateOctets c)) stateSize n, b .1, b .0)
+
+pub loads-back : (c : Collector) → Fits c → Loads (stateOctets c) c
+loads-back c f = shaped-loads c (fits-shaped f)
 
 -- what was accepted: 546 octets that are a state's
 refusing : (n : ℕ) (c : Collector) → (n ≡ 0 → ⊥) → loaded n freshCollector ≡ loaded 0 c → ⊥
@@ -41,6 +44,18 @@ loads-only o c os e =
 
 pub state-exactly : Exactly Loads Fits stateOctets
 state-exactly = record { sound = loads-only; complete = loads-back }
+
+-- what is accepted is accepted as what it is loaded as
+pub accepted : (o : List ℕ) → loadOf o .refused ≡ 0 → Loads o (loadOf o .state)
+accepted o e = ap (λ (n : ℕ). loaded n (loadOf o .state)) e
+
+-- its frame store stands in octets 9 to 509
+pub accepted-store : (o : List ℕ) → loadOf o .refused ≡ 0 → take 501 (drop 9 o) ≡ loadOf o .state .receiver .store
+unfolding loadOf stateAt
+accepted-store o e =
+    by-test (eqb (length o) stateSize)
+    (λ d. by-test (stateGood o) (λ g. rw (d, g)) (λ g. let z : _≡_ {A = ℕ} 59 0 = rw (d, g) at e in absurd (omega arith)))
+    (λ d. let z : _≡_ {A = ℕ} 60 0 = rw d at e in absurd (omega arith))
 
 -- what loading accepts has a state's size
 pub accepted-size : (o : List ℕ) → loadOf o .refused ≡ 0 → length o ≡ stateSize

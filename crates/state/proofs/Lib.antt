@@ -3,3 +3,4 @@ pub mod Back
 pub mod Stands
 pub mod Exact
 pub mod Values
+pub mod Places

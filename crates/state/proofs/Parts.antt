@@ -7,12 +7,12 @@ use lib.ListN.{length, getD, length-append, length-map}
 use Rattle.octets.specs.Splice.{splice}
 use Rattle.frames.specs.declared.Phase.{Phase}
 use Rattle.frames.specs.declared.Phase.the-variants.{Hunting, Preamble, Header, Data}
-use Rattle.frames.specs.declared.Receiver.{Receiver}
+use Rattle.frames.specs.declared.Link.{Link}
 use Rattle.rebuild.specs.declared.Slot.{Slot}
 use Rattle.rebuild.specs.View.{freeSlot}
 use Rattle.collector.specs.declared.Collector.{Collector}
-use Rattle.state.specs.Layout.{phaseOctets, slotOctets, slotsOctets, stateOctets}
-use Rattle.records.proofs.Areas.{laid-whole, two-laid, four-laid}
+use Rattle.state.specs.Layout.{phaseOctets, linkOctets, slotOctets, slotsOctets, stateOctets, Fits}
+use Rattle.records.proofs.Areas.{laid-whole, three-laid, four-laid}
 
 pub phase-size : (p : Phase) → length (phaseOctets p) ≡ 3
 phase-size Hunting = refl
@@ -28,14 +28,23 @@ slots-size (a ∷ b ∷ c ∷ []) h = absurd (omega arith)
 slots-size (a ∷ b ∷ c ∷ d ∷ []) h = refl
 slots-size (a ∷ b ∷ c ∷ d ∷ e ∷ f) h = absurd (omega arith)
 
--- the receiver's octets, before the slots'
-abbrev pub receiverOctets : Receiver → List ℕ
-receiverOctets r = phaseOctets (r .link .phase) ++ (r .link .head ++ (r .link .first ∷ r .store))
+-- what every value of the types has: arrays of their sizes
+pub record Shaped (c : Collector) : Type 0 where
+  pub head : length (c .receiver .link .head) ≡ 5
+  pub store : length (c .receiver .store) ≡ 501
+  pub four : length (c .slots .slots) ≡ 4
 
-pub receiver-size : (r : Receiver) → length (r .link .head) ≡ 5 → length (r .store) ≡ 501 → length (receiverOctets r) ≡ 510
-receiver-size r h k = simp (length-append, phase-size (r .link .phase), h, k)
+pub fits-shaped : {c : Collector} → Fits c → Shaped c
+fits-shaped f = record { head = f .head; store = f .store; four = f .four }
 
-pub state-parts : (c : Collector) → stateOctets c ≡ receiverOctets (c .receiver) ++ slotsOctets (c .slots .slots)
+pub link-size : (l : Link) → length (l .head) ≡ 5 → length (linkOctets l) ≡ 9
+link-size l h = simp (length-append, phase-size (l .phase), h)
+
+pub three-size : (p q r : List ℕ) → length (p ++ (q ++ r)) ≡ length p + (length q + length r)
+three-size p q r = simp length-append
+
+-- link, store, slots
+pub state-parts : (c : Collector) → stateOctets c ≡ linkOctets (c .receiver .link) ++ (c .receiver .store ++ slotsOctets (c .slots .slots))
 unfolding stateOctets
 state-parts c = simp append-assoc
 
@@ -51,13 +60,16 @@ slots-laid (a ∷ b ∷ c ∷ d ∷ []) area h e₁ e₂ e₃ e₄ k =
     four-laid area 510 519 528 537 (slotOctets a) (slotOctets b) (slotOctets c) (slotOctets d) e₁ e₂ e₃ e₄ refl refl refl (omega arith)
 slots-laid (a ∷ b ∷ c ∷ d ∷ e ∷ f) area h e₁ e₂ e₃ e₄ k = absurd (omega arith)
 
-pub state-laid : (c : Collector) (area l₁ l₂ : List ℕ) → l₁ ≡ splice area 0 (receiverOctets (c .receiver)) → l₂ ≡ splice l₁ 510 (slotsOctets (c .slots .slots))
-    → length (receiverOctets (c .receiver)) ≡ 510 → length (slotsOctets (c .slots .slots)) ≡ 36 → length area ≡ 546 → l₂ ≡ stateOctets c
-state-laid c area l₁ l₂ e₁ e₂ h k m =
-    let o : List ℕ = receiverOctets (c .receiver) ++ slotsOctets (c .slots .slots) in
-    let s : l₂ ≡ splice area 0 o = two-laid area 0 510 (receiverOctets (c .receiver)) (slotsOctets (c .slots .slots)) e₁ e₂ (omega arith) (omega arith) in
-    let n : length area ≡ length o = rw length-append (omega arith) in
-    laid-whole area o l₂ n s ∙ sym (state-parts c)
+pub state-laid : (c : Collector) (area : List ℕ) {l₁ l₂ l₃ : List ℕ} → l₁ ≡ splice area 0 (linkOctets (c .receiver .link)) → l₂ ≡ splice l₁ 9 (c .receiver .store)
+    → l₃ ≡ splice l₂ 510 (slotsOctets (c .slots .slots)) → length (linkOctets (c .receiver .link)) ≡ 9 → length (c .receiver .store) ≡ 501
+    → length (slotsOctets (c .slots .slots)) ≡ 36 → length area ≡ 546 → l₃ ≡ stateOctets c
+state-laid c area {l₁} {l₂} {l₃} e₁ e₂ e₃ h j k m =
+    let p = linkOctets (c .receiver .link) in
+    let q = c .receiver .store in
+    let r = slotsOctets (c .slots .slots) in
+    let s : l₃ ≡ splice area 0 (p ++ (q ++ r)) = three-laid area 0 9 510 p q r e₁ e₂ e₃ (omega arith) (omega arith) (omega arith) in
+    let n : length area ≡ length (p ++ (q ++ r)) = rw (three-size p q r, h, j, k) m in
+    laid-whole area (p ++ (q ++ r)) l₃ n s ∙ sym (state-parts c)
 
 -- an array of structs has its length by way of a map
 pub length-of-map : (X Y : Type 0) (f : X → Y) (l : List X) (n : ℕ) → length (map f l) ≡ n → length l ≡ n

@@ -14,9 +14,9 @@ use Rattle.octets.specs.Reading.{oct, Octets}
 use Rattle.octets.specs.Has.{Has, has-append, has-take, has-all}
 use Rattle.collector.specs.declared.Collector.{Collector}
 use Rattle.records.specs.Flag.{flag}
-use Rattle.state.specs.Layout.{phaseOctets, slotOctets, slotsOctets, stateOctets, PhaseFits, SlotFits, Fits}
+use Rattle.state.specs.Layout.{phaseOctets, linkOctets, slotOctets, slotsOctets, stateOctets, PhaseFits, SlotFits, Fits}
 use Rattle.state.specs.Calls.{phaseGood, phaseAt, slotsGood, slotAt, stateGood, stateAt}
-use Rattle.state.proofs.Parts.{receiver-size, slots-size, state-parts}
+use Rattle.state.proofs.Parts.{Shaped, fits-shaped, link-size, slots-size, three-size, state-parts}
 
 -- what is cut out of octets is octets
 pub octets-cut : (o : List ℕ) → Octets o → (n at : ℕ) → Octets (take n (drop at o))
@@ -86,9 +86,11 @@ both-so : (a b : Bool) → both a b ≡ true → (a ≡ true) × (b ≡ true)
 both-so true b e = (refl, e)
 both-so false b e = not-false e
 
-pub state-size : (c : Collector) → Fits c → length (stateOctets c) ≡ 546
+pub state-size : (c : Collector) → Shaped c → length (stateOctets c) ≡ 546
 state-size c f =
-    rw (state-parts c, length-append, receiver-size (c .receiver) (f .head) (f .store), slots-size (c .slots .slots) (f .four))
+    let l = c .receiver .link in
+    let t = c .slots .slots in
+    rw (state-parts c, three-size (linkOctets l) (c .receiver .store) (slotsOctets t), link-size l (f .head), f .store, slots-size t (f .four))
 
 module _ (o : List ℕ) (os : Octets o) (size : length o ≡ 546) (good : stateGood o ≡ true) where
   phased : phaseGood (oct o 0) (oct o 1) (oct o 2) ≡ true
@@ -141,4 +143,4 @@ module _ (o : List ℕ) (os : Octets o) (size : length o ≡ 546) (good : stateG
       rw p (omega arith, refl, (omega arith, refl, (omega arith, refl, h)))
 
   pub state-stands : o ≡ stateOctets (stateAt o)
-  state-stands = has-all o (stateOctets (stateAt o)) parts-stand (state-size (stateAt o) state-fits ∙ sym size)
+  state-stands = has-all o (stateOctets (stateAt o)) parts-stand (state-size (stateAt o) (fits-shaped state-fits) ∙ sym size)

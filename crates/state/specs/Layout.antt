@@ -14,6 +14,7 @@ use Rattle.octets.specs.Reading.{Octets}
 use Rattle.records.specs.Flag.{flag}
 use Rattle.frames.specs.declared.Phase.{Phase}
 use Rattle.frames.specs.declared.Phase.the-variants.{Hunting, Preamble, Header, Data}
+use Rattle.frames.specs.declared.Link.{Link}
 use Rattle.rebuild.specs.declared.Slot.{Slot}
 use Rattle.collector.specs.declared.Collector.{Collector}
 
@@ -26,6 +27,10 @@ phaseOctets Hunting = 0 ∷ 0 ∷ 0 ∷ []
 phaseOctets Preamble = 1 ∷ 0 ∷ 0 ∷ []
 phaseOctets (Header got) = 2 ∷ 0 ∷ got ∷ []
 phaseOctets (Data got) = 3 ∷ got / 256 ∷ got % 256 ∷ []
+
+-- phase, count, head and first check octet: octets 0 to 8
+abbrev pub linkOctets : Link → List ℕ
+linkOctets l = phaseOctets (l .phase) ++ (l .head ++ (l .first ∷ []))
 
 abbrev pub slotOctets : Slot → List ℕ
 slotOctets x =

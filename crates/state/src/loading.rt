@@ -1,9 +1,7 @@
-// The state that octets are, and whether they are one.
-use crate::Loaded;
-use collector::Collector;
+// The link and the slots that octets hold, and whether they are a state.
+use crate::Lifted;
 use frames::Link;
 use frames::Phase;
-use frames::Receiver;
 use rebuild::Key;
 use rebuild::Slot;
 use rebuild::Slots;
@@ -11,15 +9,21 @@ ghost use mathlib.Core.Path.{_≡_};
 ghost use Prim.Native.Nat.{_+_, _≤_};
 ghost use lib.ListN.{length, take, drop};
 ghost use Rattle.collector.specs.Calls.{freshCollector};
-ghost use Rattle.state.specs.Calls.{phaseGood, slotsGood, stateGood, phaseAt, slotAt, stateAt, loaded};
+ghost use Rattle.state.specs.Calls.{phaseGood, slotsGood, stateGood, phaseAt, slotAt, stateAt, loaded, liftedAs};
 
-// A refusal, beside the fresh state.
-pub fn refused(n: u8) -> Loaded
-    ensures { λ r. ⌜ r ≡ loaded n freshCollector ⌝ }
+// A refusal, beside the fresh link and slots.
+pub fn refused(n: u8) -> Lifted
+    ensures { λ r. ⌜ r ≡ liftedAs (loaded n freshCollector) ⌝ }
 {
-    Loaded {
+    let link = Link {
+        phase: Phase::Hunting,
+        head: [0; 5],
+        first: 0,
+    };
+    Lifted {
         refused: n,
-        state: Collector::FRESH,
+        link,
+        slots: Slots::FREE,
     }
 }
 
@@ -91,15 +95,6 @@ fn head_at(o: &[u8]) -> [u8; 5]
     a
 }
 
-fn store_at(o: &[u8]) -> [u8; 501]
-    requires { ⌜ length (now o) ≡ 546 ⌝ }
-    ensures { λ r. ⌜ r ≡ take 501 (drop 9 (now (o .entry))) ⌝ }
-{
-    let mut a = [0u8; 501];
-    octets::copy(&o[9..510], &mut a, 0);
-    a
-}
-
 fn slot_at(o: &[u8], at: usize) -> Slot
     requires { ⌜ at + 9 ≤ length (now o) ⌝ }
     ensures { λ r. ⌜ r ≡ slotAt (now (o .entry)) at ⌝ }
@@ -119,29 +114,30 @@ fn slot_at(o: &[u8], at: usize) -> Slot
     }
 }
 
-// The state that 546 good octets are.
-pub fn state_at(o: &[u8]) -> Collector
+// The link that 546 good octets hold.
+pub fn link_at(o: &[u8]) -> Link
     requires { ⌜ length (now o) ≡ 546 ⌝ }
-    ensures { λ r. ⌜ r ≡ stateAt (now (o .entry)) ⌝ }
+    ensures { λ r. ⌜ r ≡ stateAt (now (o .entry)) .receiver .link ⌝ }
 {
     let h = head_at(o);
-    let l = Link {
+    Link {
         phase: phase_at(o[0], o[1], o[2]),
         head: h,
         first: o[8],
-    };
-    let s = store_at(o);
-    let r = Receiver { link: l, store: s };
-    let t = Slots {
+    }
+}
+
+// The slots that 546 good octets hold.
+pub fn slots_at(o: &[u8]) -> Slots
+    requires { ⌜ length (now o) ≡ 546 ⌝ }
+    ensures { λ r. ⌜ r ≡ stateAt (now (o .entry)) .slots ⌝ }
+{
+    Slots {
         slots: [
             slot_at(o, 510),
             slot_at(o, 519),
             slot_at(o, 528),
             slot_at(o, 537),
         ],
-    };
-    Collector {
-        receiver: r,
-        slots: t,
     }
 }

@@ -1,15 +1,14 @@
 // The octets of a state, laid into an area.
 use collector::Collector;
 use frames::Phase;
-use frames::Receiver;
+use frames::Link;
 use rebuild::Slot;
 use rebuild::Slots;
 ghost use mathlib.Core.Path.{_≡_};
-ghost use mathlib.Core.List.{_∷_, _++_};
 ghost use Prim.Native.Nat.{_+_, _≤_};
 ghost use lib.ListN.{length};
 ghost use Rattle.octets.specs.Splice.{splice};
-ghost use Rattle.state.specs.Layout.{phaseOctets, slotOctets, slotsOctets, stateOctets};
+ghost use Rattle.state.specs.Layout.{phaseOctets, linkOctets, slotOctets, slotsOctets, stateOctets};
 
 // Phase and count.
 fn phase_octets(p: Phase) -> [u8; 3]
@@ -39,20 +38,17 @@ fn slot_octets(x: Slot) -> [u8; 9]
     ]
 }
 
-// Phase, count, head, first check octet and store.
-fn put_receiver(r: Receiver, area: &mut [u8])
+// Phase, count, head and first check octet.
+pub fn put_link(l: Link, area: &mut [u8])
     requires { ⌜ length (now area) ≡ 546 ⌝ }
-    ensures { λ _. ⌜ now (area .exit) ≡ splice (now (area .entry)) 0 (phaseOctets (r .link .phase) ++ (r .link .head ++ (r .link .first ∷ r .store))) ⌝ }
+    ensures { λ _. ⌜ now (area .exit) ≡ splice (now (area .entry)) 0 (linkOctets l) ⌝ }
 {
-    let l = r.link;
     let g = l.phase;
     let p = phase_octets(g);
     let h = l.head;
-    let s = r.store;
     octets::copy(&p, area, 0);
     octets::copy(&h, area, 3);
     octets::put(area, 8, l.first);
-    octets::copy(&s, area, 9);
 }
 
 fn put_slot(x: Slot, area: &mut [u8], at: usize)
@@ -63,7 +59,7 @@ fn put_slot(x: Slot, area: &mut [u8], at: usize)
     octets::copy(&o, area, at);
 }
 
-fn put_slots(t: Slots, area: &mut [u8])
+pub fn put_slots(t: Slots, area: &mut [u8])
     requires { ⌜ length (now area) ≡ 546 ⌝ }
     ensures { λ _. ⌜ now (area .exit) ≡ splice (now (area .entry)) 510 (slotsOctets (t .slots)) ⌝ }
 {
@@ -79,7 +75,10 @@ pub fn put_state(c: Collector, area: &mut [u8])
     ensures { λ _. ⌜ now (area .exit) ≡ stateOctets c ⌝ }
 {
     let r = c.receiver;
+    let l = r.link;
+    let s = r.store;
     let t = c.slots;
-    put_receiver(r, area);
+    put_link(l, area);
+    octets::copy(&s, area, 9);
     put_slots(t, area);
 }

@@ -1,6 +1,3 @@
-use Rattle.collector.proofs.Answers.{forgets-slots, forgets-left, forgets-on}
-use borrow.Author.Tests.{not-true, not-false}
-use mathlib.Core.Path.{_≡_, sym, _∙_}
 use borrow.Author.Needs.{needs}
 use Rattle.collector.proofs.Collector.forget.Statement.{statement}
 use Rattle.collector.proofs.Collector.forget.Tie as tie
@@ -10,8 +7,4 @@ forget-spec =
     tie.close
     (tie.spec
     (λ c κs. search needs)
-    (λ c. forgets-slots (c .before .before .before .before .args .self) (c .before .before .before .before .args .s) (sym (c .before .sound .ensures) ∙ not-true _ (c .if1 .taken)))
-    (λ c κs. search needs)
-    (λ c. forgets-left (c .before .before .before .before .before .before .before .args .self) (c .before .before .before .before .before .before .before .args .s) (sym (c .before .before .before .before .sound .ensures) ∙ not-false _ (c .before .before .before .if1 .left)) (sym (c .before .sound2 .ensures) ∙ not-true _ (c .if2 .taken)))
-    (λ c κs. search needs)
-    (λ c. forgets-on (c .before .before .before .before .before .before .before .before .before .args .self) (c .before .before .before .before .before .before .before .before .before .args .s) (sym (c .before .before .before .before .before .before .sound .ensures) ∙ not-false _ (c .before .before .before .before .before .if1 .left)) (sym (c .before .before .before .sound2 .ensures) ∙ not-false _ (c .before .before .if2 .left)) (c .before .forget .ensures)))
+    (λ c. c .before .forget .ensures (c .before .before .before .before .before .args .self .receiver .store)))

@@ -1,4 +1,7 @@
-use Rattle.hitchbarley.proofs.Passed.{forgets-not, forgets-on}
+use native.Mathlib.Omega.{arith}
+use denote.Ref.{now}
+use Rattle.state.proofs.Places.{slots-over}
+use Rattle.hitchbarley.proofs.Passed.{lifted-holds, forgets-not, forgets-on}
 use borrow.Author.Needs.{needs}
 use Rattle.hitchbarley.proofs.trunk_calls.hb_forget.Statement.{statement}
 use Rattle.hitchbarley.proofs.trunk_calls.hb_forget.Tie as tie
@@ -9,8 +12,8 @@ hb-forget-spec =
     (tie.spec
     (λ c κs. search needs)
     (λ c. search needs)
-    (λ c. forgets-not _ _ (c .before .load .result) (c .before .load .ensures) (c .if1 .taken))
+    (λ c. forgets-not _ _ (c .before .lift .result) (c .before .lift .ensures) (c .if1 .taken))
     (λ c κs. search needs)
     (λ c κs. search needs)
     (λ c. search needs)
-    (λ c. forgets-on _ _ (c .before .before .before .before .before .before .before .before .load .result) (c .before .before .before .before .before .before .before .before .load .ensures) (c .before .before .before .before .before .before .before .if1 .left) (c .before .before .before .before .before .forget .ensures) (c .before .before .save .ensures)))
+    (λ c. forgets-on _ _ (c .before .before .before .before .before .before .before .before .before .lift .result) (c .before .before .before .before .before .before .before .before .before .lift .ensures) (c .before .before .before .before .before .before .before .before .if1 .left) (c .before .before .before .before .before .forget .ensures) (slots-over (lifted-holds (now (c .before .before .before .before .before .before .before .before .before .before .before .before .args .state)) (λ i. omega (arith, c .before .before .before .before .before .before .before .before .before .before .before .slice-known .given i)) (c .before .before .before .before .before .before .before .before .before .lift .ensures) (c .before .before .before .before .before .before .before .before .if1 .left)) (c .before .before .lay-slots .ensures))))

@@ -1,4 +1,6 @@
-use Rattle.state.proofs.Parts.{receiver-size, slots-size, state-laid, length-of-map}
+use denote.Ref.{now}
+use Rattle.state.proofs.Parts.{link-size, slots-size, state-laid, length-of-map}
+use native.Mathlib.Omega.{arith}
 use mathlib.Core.Path.{_≡_}
 use lib.ListN.{length}
 use borrow.Author.Needs.{needs}
@@ -20,6 +22,8 @@ put-state-spec =
     tie.close
     (tie.spec
     (λ c κs. search needs)
+    (λ c. search needs)
+    (λ c κs. omega (arith, many (c .before .before .before .before .before .before .before .before .before .before .before), c .before .before .before .before .put-link .kept, c .before .before .before .before .before .before .before .before .before .before .before .pre))
     (λ c κs. search needs)
     (λ c. search needs)
-    (λ c. let st = c .before .before .before .before .before .before .before .before .before .before .before in state-laid (st .args .c) _ _ _ (c .before .before .before .before .before .before .put-receiver .ensures) (c .before .before .put-slots .ensures) (receiver-size (st .args .c .receiver) (five st) (many st)) (slots-size (st .args .c .slots .slots) (four st)) (st .pre)))
+    (λ c. let st = c .before .before .before .before .before .before .before .before .before .before .before .before .before .before .before .before .before .before in state-laid (st .args .c) (now (st .args .area)) (c .before .before .before .before .before .before .before .before .before .before .before .put-link .ensures) (c .before .before .before .before .before .before .copy .ensures) (c .before .before .put-slots .ensures) (link-size (st .args .c .receiver .link) (five st)) (many st) (slots-size (st .args .c .slots .slots) (four st)) (st .pre)))

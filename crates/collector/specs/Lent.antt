@@ -1,0 +1,50 @@
+-- The three calls over a lent frame store: they are the collector's own, its link, slots and store being apart.
+use Prim.Native.Nat.{ℕ}
+use mathlib.Core.Bool.{false}
+use mathlib.Core.List.{List}
+use Rattle.frames.specs.declared.Link.{Link}
+use Rattle.frames.specs.Step as Frames
+use Rattle.rebuild.specs.declared.Slots.{Slots}
+use Rattle.collector.specs.Acting.{Kept}
+use Rattle.collector.specs.Calls.{Feeds, Stills, Forgets}
+use Rattle.collector.specs.declared.Collector.{Collector}
+use Rattle.collector.specs.declared.Fed.{Fed}
+use Rattle.collector.specs.declared.Fell.{Fell}
+use Rattle.collector.specs.declared.Forgot.{Forgot}
+use Rattle.collector.specs.declared.lent.Ate.{Ate}
+use Rattle.collector.specs.declared.lent.Hushed.{Hushed}
+use Rattle.collector.specs.declared.lent.Freed.{Freed}
+
+-- link, slots and store put together
+abbrev pub over : Link → Slots → List ℕ → Collector
+over l t s = record { receiver = Frames.over l s; slots = t }
+
+-- ---- feeding: the collector's promise, and slots that have not moved are those that were there
+abbrev pub fedOver : Ate → List ℕ → Fed
+fedOver r s = record { refused = r .refused; eaten = r .eaten; reported = r .reported; state = over (r .link) (r .slots) s }
+
+pub record Eats (l : Link) (t : Slots) (store report area piece : List ℕ) (r : Ate) (store′ report′ area′ : List ℕ) : Type 0 where
+  pub feeds : Feeds (over l t store) report area piece (fedOver r store′) report′ area′
+  pub kept : Kept (r .moved) t (r .slots)
+
+-- a refused piece: nothing eaten, nothing changed
+abbrev pub unfedBy : ℕ → Link → Slots → Ate
+unfedBy n l t = record { refused = n; eaten = 0; reported = false; moved = false; link = l; slots = t }
+
+-- ---- a silence, whatever the store is: neither store nor slots change
+abbrev pub fellOver : Hushed → Slots → List ℕ → Fell
+fellOver r t s = record { refused = r .refused; reported = r .reported; state = over (r .link) t s }
+
+abbrev pub Hushes : Link → Slots → List ℕ → Hushed → List ℕ → Type 0
+Hushes l t report r report′ = (s : List ℕ) → Stills (over l t s) report (fellOver r t s) report′
+
+-- a silence that reports nothing, or is refused
+abbrev pub quietBy : ℕ → Link → Hushed
+quietBy n l = record { refused = n; reported = false; link = l }
+
+-- ---- forgetting, whatever the store is: neither store nor link changes
+abbrev pub forgotOver : Freed → Link → List ℕ → Forgot
+forgotOver r l s = record { number = r .number; state = over l (r .slots) s }
+
+abbrev pub Frees : Link → Slots → ℕ → Freed → Type 0
+Frees l t i r = (s : List ℕ) → Forgets (over l t s) i (forgotOver r l s)

@@ -1,0 +1,146 @@
+-- Each call's promise allows an answer, and no other.
+use Prim.Native.Nat.{ℕ}
+use mathlib.Core.Path.{_≡_, refl, sym, _∙_}
+use mathlib.Core.List.{List, []}
+use Rattle.octets.specs.Laid.{Laid, answerOf, areaOf, laid-one}
+use Rattle.octets.specs.declared.Written.{Written}
+use Rattle.items.specs.Reading.{itemsOf}
+use Rattle.items.specs.Listing.{Listed, listedOf, listing, listed-one}
+use Rattle.items.specs.declared.Tally.{Tally}
+use Rattle.messages.specs.Rows.{Done, forgetNumber, forgotten}
+use Rattle.rebuild.specs.View.{keys, view, unview}
+use Rattle.rebuild.specs.Calls as Rebuild
+use Rattle.rebuild.specs.declared.Key.{Key}
+use Rattle.rebuild.specs.declared.Slots.{Slots}
+use Rattle.rebuild.specs.declared.Taken.{Taken}
+use Rattle.rebuild.specs.declared.Forgot.{Forgot as Freed}
+use Rattle.rebuild.proofs.Seen.{view-unview}
+use Rattle.rebuild.proofs.Giving as Giving
+use lib.ListN.{length}
+use Rattle.octets.specs.Choice.{pick}
+use Rattle.collector.specs.Calls.{box, sound, slotsOf, written, saidSo, Answered, feedRefusal, feeding, Tells, Feeds, silenceRefusal, stilling, Falls, Stills, Forgets}
+use Rattle.collector.specs.declared.Collector.{Collector}
+use Rattle.collector.specs.declared.Fed.{Fed}
+use Rattle.collector.specs.declared.Fell.{Fell}
+use Rattle.collector.specs.declared.Forgot.{Forgot}
+use Rattle.collector.proofs.Alike.{feeds-one, stills-one, forgets-one}
+use Rattle.reader.specs.declared.Reader.{Reader}
+use denote.Ref.{RefT}
+use Rattle.demands.specs.Words.{One}
+use Rattle.demands.specs.Demands.{OneAnswer}
+
+-- a promise that is an equation
+equal : (A : Type 0) (x : A) → One A (λ r. r ≡ x)
+equal A x = record { answer = x; allowed = refl; same = λ r r′ a b. a ∙ sym b }
+
+-- a writer's, and listing's
+laid : (f : ℕ) (o out : List ℕ) → One (Written × List ℕ) (λ x. Laid f o out (x .0) (x .1))
+laid f o out =
+    record {
+      answer = (answerOf f o out, areaOf f o out);
+      allowed = record { answer = refl; after = refl };
+      same = λ r r′ a b. let e = laid-one a b in λ i. (e .0 i, e .1 i);
+    }
+
+listed : (s out : List ℕ) → One (Tally × List ℕ) (λ x. Listed s out (x .0) (x .1))
+listed s out =
+    record {
+      answer = (listedOf (length out) (itemsOf s), listing out (itemsOf s));
+      allowed = record { answer = refl; after = refl };
+      same = λ r r′ a b. let e = listed-one a b in λ i. (e .0 i, e .1 i);
+    }
+
+-- the reader value's
+placed : (s : RefT (List ℕ)) (at : ℕ) → One Reader (λ r. (r .params ≡ s) × (r .at ≡ at))
+placed s at =
+    record {
+      answer = record { params = s; at = at };
+      allowed = (refl, refl);
+      same = λ r r′ a b. let p = a .0 ∙ sym (b .0) in let q = a .1 ∙ sym (b .1) in λ i. record { params = p i; at = q i };
+    }
+
+-- rebuilding's
+given : (d : Done Key) → One (Taken × List ℕ) (λ x. Rebuild.Gives d (x .0) (x .1))
+given d =
+    record {
+      answer = (record { answer = Rebuild.stepOf (d .answer); slots = unview (d .box .slots) }, d .box .area);
+      allowed = record { answer = refl; slots = view-unview (d .box .slots); area = refl };
+      same = λ r r′ a b. let e = Giving.gives-one a b in λ i. (record { answer = e .0 i; slots = e .1 .0 i }, e .1 .1 i);
+    }
+
+freed : (t : Slots) (s : ℕ) → One Freed (λ r. Rebuild.Forgets t s r)
+freed t s =
+    record {
+      answer = record { number = forgetNumber keys s (view t); slots = unview (forgotten keys s (view t)) };
+      allowed = record { number = refl; slots = view-unview (forgotten keys s (view t)) };
+      same = λ r r′ a b. let e = Giving.forgets-one a b in λ i. record { number = e .0 i; slots = e .1 i };
+    }
+
+-- the collector's
+abbrev pub stateOf : Answered → Collector
+stateOf d = record { receiver = d .state; slots = unview (d .slots) }
+
+pub tells : (n : ℕ) (d : Answered) (report : List ℕ) → Tells n d report (record { refused = n; eaten = d .eaten; reported = saidSo (d .said); state = stateOf d }) (written (d .said) report) (d .area)
+tells n d report = record { refused = refl; eaten = refl; reported = refl; receiver = refl; slots = view-unview (d .slots); reportAfter = refl; areaAfter = refl }
+
+fed : (c : Collector) (piece report area : List ℕ) → One (Fed × List ℕ × List ℕ) (λ x. Feeds c report area piece (x .0) (x .1) (x .2))
+fed c piece report area =
+    let d = feeding c report area piece in
+    record {
+      answer = (record { refused = feedRefusal c report area; eaten = d .eaten; reported = saidSo (d .said); state = stateOf d }, written (d .said) report, d .area);
+      allowed = tells (feedRefusal c report area) d report;
+      same = λ r r′ a b. let e = feeds-one c report area piece a b in λ i. (e .0 i, e .1 i, e .2 i);
+    }
+
+pub falls : (n : ℕ) (d : Answered) (report : List ℕ) → Falls n d report (record { refused = n; reported = saidSo (d .said); state = stateOf d }) (written (d .said) report)
+falls n d report = record { refused = refl; reported = refl; receiver = refl; slots = view-unview (d .slots); reportAfter = refl }
+
+fell : (c : Collector) (report : List ℕ) → One (Fell × List ℕ) (λ x. Stills c report (x .0) (x .1))
+fell c report =
+    let d = stilling c report [] in
+    record {
+      answer = (record { refused = silenceRefusal c report; reported = saidSo (d .said); state = stateOf d }, written (d .said) report);
+      allowed = falls (silenceRefusal c report) d report;
+      same = λ r r′ a b. let e = stills-one c report a b in λ i. (e .0 i, e .1 i);
+    }
+
+pub forgets : (c : Collector) (s : ℕ)
+    → Forgets c s (record { number = pick (sound (c .receiver) (slotsOf c)) (forgetNumber keys s (slotsOf c)) 59; state = record { receiver = c .receiver; slots = unview (box .free s (c .receiver) (slotsOf c)) } })
+forgets c s = record { number = refl; receiver = refl; slots = view-unview (box .free s (c .receiver) (slotsOf c)) }
+
+forgot : (c : Collector) (s : ℕ) → One Forgot (λ r. Forgets c s r)
+forgot c s = record { answer = _; allowed = forgets c s; same = λ r r′ a b. forgets-one c s a b }
+
+pub one-answer : OneAnswer
+one-answer =
+    record {
+      header-step = λ reg octet. equal ℕ _;
+      header-run = λ reg s. equal ℕ _;
+      header-check = λ s. equal ℕ _;
+      data-step = λ reg octet. equal ℕ _;
+      data-run = λ reg s. equal ℕ _;
+      data-check = λ s. equal ℕ _;
+      receiver-fresh = equal _ _;
+      receiver-feed = λ m piece. equal _ _;
+      receiver-silence = λ m. equal _ _;
+      npdu-read = λ s. equal _ _;
+      npdu-write = λ h out. laid _ _ out;
+      apdu-read = λ s. equal _ _;
+      apdu-write = λ p out. laid _ _ out;
+      items-count = λ s. equal _ _;
+      items-list = λ s out. listed s out;
+      items-item-at = λ s at. equal _ _;
+      items-write = λ records source out. laid _ _ out;
+      services-read = λ kind choice s. equal _ _;
+      services-write = λ v value out. laid _ _ out;
+      reader-new = λ s. placed s 0;
+      reader-next = λ q. equal _ _;
+      reader-moved = λ q at. placed (q .params) at;
+      reader-first = λ s. equal _ _;
+      rebuild-take = λ t g o area. given _;
+      rebuild-forget = λ t s. freed t s;
+      collector-fresh = equal _ _;
+      collector-feed = λ c piece report area. fed c piece report area;
+      collector-silence = λ c report. fell c report;
+      collector-forget = λ c s. forgot c s;
+    }

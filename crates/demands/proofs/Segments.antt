@@ -1,0 +1,106 @@
+-- What a segment changes, by its answer.
+use Prim.Native.Nat.{ℕ, _+_, _*_, _≤_, _<_}
+use native.Mathlib.Omega.{arith}
+use mathlib.Core.Path.{_≡_, refl, sym, ap, _∙_}
+use mathlib.Core.Logic.{_⊎_, inl, inr}
+use mathlib.Core.Bool.{false}
+use mathlib.Core.List.{List}
+use mathlib.Core.Option.{Option, none, some}
+use lib.Dec.{eqb, ltb}
+use lib.ListN.{length, set}
+use borrow.Author.Tests.{ltb-false, eqb-true, eqb-false}
+use Rattle.octets.specs.Choice.{both, non, pick-case, pick-cases, by-test}
+use Rattle.octets.specs.Splice.{splice}
+use Rattle.messages.specs.Slots.{room, Segment, Slot, Box, boxed, lowest, orElse, isSome, empty, openTo, isFree, slotOf}
+use Rattle.messages.specs.Rows.{Answer, Done, kept, lost, freeAt, recordAt, settle, settled, fitted, before, rows, rebuild}
+use Rattle.messages.specs.Rows.Answer.{refused, taken, completed}
+use Rattle.messages.proofs.Lowest.{lowest-some}
+use Rattle.messages.proofs.Tests.{never, pick-true, pick-false}
+use Rattle.rebuild.specs.View.{keys, view, segmentOf}
+use Rattle.rebuild.specs.Calls as Rebuild
+use Rattle.rebuild.specs.declared.Key.{Key}
+use Rattle.rebuild.specs.declared.Step.the-variants.{Refused}
+use Rattle.rebuild.proofs.Seen.{view-one}
+use Rattle.rebuild.proofs.Giving.{gives-by, taking-60, taking-on}
+use Rattle.demands.specs.Words.{Between, inFront, SegmentLaid, SegmentChanges}
+use Rattle.demands.specs.Demands.{SegmentDoes, TakeDoes, FreeDoes}
+
+module _ (g : Segment Key) (b : Box Key) where
+  abbrev Does : Done Key → Type 0
+  Does d = SegmentChanges g b (d .answer) (d .box .slots) (d .box .area)
+
+  keeps : (n : ℕ) → Between 50 53 n → Does (kept n b)
+  keeps n h = (refl, inl (h, refl))
+
+  loses : (n : ℕ) (o : Option ℕ) → slotOf keys (g .key) (b .slots) ≡ o → Between 54 55 n → Does (lost keys n o b)
+  loses n o e h = (refl, inr (h, ap (λ (x : Option ℕ). freeAt keys x (b .slots)) (sym e)))
+
+  settles : (i n : ℕ) → i < length (b .slots) → n ≡ inFront g b i → n + length (g .octets) ≤ room → Does (settle keys g i n b)
+  settles i n l e f = rw e (pick-case Does (g .mor) laid laid)
+    where
+      laid : {t : Slot Key} → SegmentLaid g b i (inFront g b i + length (g .octets)) t (set (b .slots) i t) (splice (b .area) (room * i + inFront g b i) (g .octets))
+      laid = record { slot = l; total = refl; fits = rw e at f; laid = refl; records = refl }
+
+  -- the slot that a segment goes to: its key's, or for number 0 the lowest free one
+  abbrev Goes : Option ℕ → ℕ → Type 0
+  Goes x n = (i : ℕ) → x ≡ some i → (i < length (b .slots)) × (n ≡ inFront g b i)
+
+  goes : (o : Option ℕ) → slotOf keys (g .key) (b .slots) ≡ o → both (non (eqb (g .number) 0)) (non (isSome o)) ≡ false
+      → Goes (orElse o (lowest (isFree keys) (b .slots))) (before keys g (recordAt keys (b .slots) o))
+  goes none e z i q =
+      (lowest-some (isFree keys) (empty keys) (b .slots) i q .0, by-test (eqb (g .number) 0) (λ t. rw t) (λ t. never (sym (rw t at z))))
+  goes (some j) e z i q = let s : j ≡ i = cc in (lowest-some (openTo keys (g .key)) (empty keys) (b .slots) i (e ∙ q) .0, ap (inFront g b) s)
+
+  finds : (x : Option ℕ) (n : ℕ) → Goes x n → n + length (g .octets) ≤ room → Does (settled keys g x n b)
+  finds none n h f = keeps 50 (omega arith, omega arith)
+  finds (some i) n h f = settles i n (h i refl .0) (h i refl .1) f
+
+  fits : (o : Option ℕ) → slotOf keys (g .key) (b .slots) ≡ o → (n : ℕ) → Goes (orElse o (lowest (isFree keys) (b .slots))) n → Does (fitted keys g o n b)
+  fits o e n h =
+      pick-case Does (both (eqb (g .number) 255) (g .mor)) (loses 55 o e (omega arith, omega arith))
+      (pick-cases Does (ltb room (n + length (g .octets))) (λ _. loses 54 o e (omega arith, omega arith)) (λ f.
+      finds (orElse o (lowest (isFree keys) (b .slots))) n h (ltb-false room (n + length (g .octets)) f)))
+
+  by-rows : (o : Option ℕ) → slotOf keys (g .key) (b .slots) ≡ o → Does (rows keys g o (recordAt keys (b .slots) o) b)
+  by-rows o e =
+      let t = recordAt keys (b .slots) o in
+      let zeroth = eqb (g .number) 0 in
+      let later = both (isSome o) (non zeroth) in
+      pick-cases Does (both (non zeroth) (non (isSome o))) (λ _. keeps 51 (omega arith, omega arith)) (λ z.
+      pick-case Does (both later (non (eqb (g .number) (t .next)))) (keeps 52 (omega arith, omega arith))
+      (pick-case Does (both later (non (eqb (g .choice) (t .choice)))) (keeps 53 (omega arith, omega arith)) (fits o e (before keys g t) (goes o e z))))
+
+pub segment-does : SegmentDoes
+unfolding rebuild
+segment-does g b = by-rows g b (slotOf keys (g .key) (b .slots)) refl
+
+-- ---- rebuild::take: its own refusals are 50 to 55, so 60 is the area's alone
+not-sixty : (g : Segment Key) (b : Box Key) (w : Answer) (slots : List (Slot Key)) (area : List ℕ) → SegmentChanges g b w slots area → Rebuild.stepOf w ≡ Refused 60 → ⊥
+not-sixty g b (refused n) slots area h e = let z : n ≡ 60 = cc in by (h .1) z
+  where
+    by : (Between 50 53 n × (slots ≡ b .slots)) ⊎ (Between 54 55 n × (slots ≡ freeAt keys (slotOf keys (g .key) (b .slots)) (b .slots))) → n ≡ 60 → ⊥
+    by (inl x) z = omega (arith, x .0 .1)
+    by (inr x) z = omega (arith, x .0 .1)
+not-sixty g b (taken i n) slots area h e = let z : _≡_ {A = ℕ} 0 1 = cc in omega arith
+not-sixty g b (completed i n) slots area h e = let z : _≡_ {A = ℕ} 0 1 = cc in omega arith
+
+pub take-does : TakeDoes
+take-does t g o area r later h =
+    by-test (eqb (length area) 65536)
+    (λ e.
+    let z : length area ≡ 65536 = eqb-true _ _ e in
+    let b = boxed (view t) area in
+    let k = gives-by (sym (taking-on t g o area z)) h in
+    let d = rebuild keys (segmentOf g o) b in
+    let no : r .answer ≡ Refused 60 → ⊥ = λ q. not-sixty (segmentOf g o) b (d .answer) (d .box .slots) (d .box .area) (segment-does (segmentOf g o) b) (sym (k .answer) ∙ q) in
+    ((λ q. absurd (no q), λ n. absurd (n z)), λ q. absurd (no q), λ _. k))
+    (λ e.
+    let n : length area ≡ 65536 → ⊥ = eqb-false _ _ e in
+    let k = gives-by (sym (taking-60 t g o area n)) h in
+    ((λ _. n, λ _. k .answer), λ _. (view-one (r .slots) t (k .slots), k .area), λ z. absurd (n z)))
+
+pub free-does : FreeDoes
+free-does t s r h = (
+  λ u. (h .number ∙ pick-true _ 0 56 u, h .slots ∙ pick-true _ _ _ u),
+  λ u. (h .number ∙ pick-false _ 0 56 u, view-one (r .slots) t (h .slots ∙ pick-false _ _ _ u)),
+)

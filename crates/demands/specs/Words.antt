@@ -1,0 +1,134 @@
+-- The words in which the demands are said: one answer, the numbers of a call, what 59 names, what a call changes.
+use Prim.Native.Nat.{ℕ, _+_, _*_, _≤_, _<_}
+use mathlib.Core.Path.{_≡_}
+use mathlib.Core.Logic.{_↔_, _⊎_}
+use mathlib.Core.Bool.{Bool, true, false}
+use mathlib.Core.List.{List, _++_}
+use mathlib.Core.Option.{Option, none, some}
+use lib.Dec.{eqb}
+use lib.ListN.{length, drop, set}
+use Rattle.octets.specs.Choice.{pick}
+use Rattle.octets.specs.Splice.{splice}
+use Rattle.octets.specs.declared.Written.{Written}
+use Rattle.octets.specs.declared.Written.the-variants.{Wrote, Refused}
+use Rattle.frames.specs.Step.{most, lengthOf}
+use Rattle.frames.specs.declared.Fed as Receiver
+use Rattle.frames.specs.declared.Phase.the-variants.{Header, Data}
+use Rattle.frames.specs.declared.Receiver.{Receiver}
+use Rattle.trunk.specs.Reading.{Out}
+use Rattle.trunk.specs.Demand.{outOf}
+use Rattle.messages.specs.Slots.{Segment, Slot, Box, boxed, room, empty, slotAt, slotOf}
+use Rattle.messages.specs.Rows.{Answer, awaiting, freeAt, rebuild}
+use Rattle.messages.specs.Rows.Answer.{refused, taken, completed}
+use Rattle.rebuild.specs.View.{keys}
+use Rattle.rebuild.specs.declared.Key.{Key}
+use Rattle.services.specs.declared.Service.{Service}
+use Rattle.services.specs.declared.Service.the-variants.{ReadProperty, ReadPropertyAck, WriteProperty, WhoIs, IAm, Error}
+use Rattle.services.specs.declared.Target.{Target}
+use Rattle.collector.specs.Calls.{slotsOf}
+use Rattle.collector.specs.Frame.{segmentAt, plainAt, answeredAt}
+use Rattle.collector.specs.declared.Collector.{Collector}
+use Rattle.collector.specs.declared.Fed.{Fed}
+use Rattle.collector.specs.declared.Fell.{Fell}
+
+-- ---- "any two answers it allows are shown equal": an answer with all that a call leaves in what it was lent. There is one that the promise P allows,
+-- so that it asks nothing impossible, and no other.
+pub record One (A : Type 0) (P : A → Type 0) : Type 0 where
+  pub answer : A
+  pub allowed : P answer
+  pub same : (r r′ : A) → P r → P r′ → r ≡ r′
+
+-- ---- numbers
+abbrev pub Between : ℕ → ℕ → ℕ → Type 0
+Between low high n = (low ≤ n) × (n ≤ high)
+
+-- "60, then 59 .. come before all else": n, the number that a call gives, where Sized says that what it was lent has its size and Broken that
+-- 59 names its state
+pub record SixtyThenFiftyNine (n : ℕ) (Sized Broken : Type 0) : Type 0 where
+  pub sixty : (n ≡ 60) ↔ (Sized → ⊥)
+  pub fifty-nine : (n ≡ 59) ↔ (Sized × Broken)
+  pub none : (n ≡ 0) ↔ (Sized × (Broken → ⊥))
+
+-- ---- 59: "a state in header or data with nothing left to come, in data with a length of 0 or above 501"
+pub data BrokenReceiver (r : Receiver) : Type 0 where
+  header-over : (got : ℕ) → r .link .phase ≡ Header got → 6 ≤ got → BrokenReceiver r
+  data-over : (got : ℕ) → r .link .phase ≡ Data got → lengthOf (r .link .head) + 2 ≤ got → BrokenReceiver r
+  no-length : (got : ℕ) → r .link .phase ≡ Data got → lengthOf (r .link .head) ≡ 0 → BrokenReceiver r
+  long-length : (got : ℕ) → r .link .phase ≡ Data got → most < lengthOf (r .link .head) → BrokenReceiver r
+
+-- "a slot holding over 16,384, or two open slots of one key"
+pub data BrokenSlots (s : List (Slot Key)) : Type 0 where
+  holds-over : (i : ℕ) → i < length s → room < slotAt keys s i .held → BrokenSlots s
+  one-key : (i j : ℕ) → i < j → j < length s → slotAt keys s i .used ≡ true → slotAt keys s j .used ≡ true → slotAt keys s i .key ≡ slotAt keys s j .key → BrokenSlots s
+
+abbrev pub Broken : Collector → Type 0
+Broken c = BrokenReceiver (c .receiver) ⊎ BrokenSlots (slotsOf c)
+
+-- four slots, as the type of a collector says
+abbrev pub Four : Collector → Type 0
+Four c = length (slotsOf c) ≡ 4
+
+-- ---- what a writer does: f is the number that its fields deserve, 0 for none, and o its result. "61 last"; "Nothing changes unless said, and
+-- nothing past a result is written."
+pub record WritesBy (f : ℕ) (o area : List ℕ) (r : Written) (later : List ℕ) : Type 0 where
+  pub faulty : (f ≡ 0 → ⊥) → (r ≡ Refused f) × (later ≡ area)
+  pub short : f ≡ 0 → length area < length o → (r ≡ Refused 61) × (later ≡ area)
+  pub fine : f ≡ 0 → length o ≤ length area → (r ≡ Wrote (length o)) × (later ≡ o ++ drop (length o) area)
+
+-- ---- what a segment changes, by its answer: from the slots and the area of b to these
+-- 50 to 53 change nothing; 54 and 55 free the key's slot, where it has one, and leave the area
+abbrev pub SegmentRefused : Segment Key → Box Key → ℕ → List (Slot Key) → List ℕ → Type 0
+SegmentRefused g b n slots area =
+    (area ≡ b .area) × ((Between 50 53 n × (slots ≡ b .slots)) ⊎ (Between 54 55 n × (slots ≡ freeAt keys (slotOf keys (g .key) (b .slots)) (b .slots))))
+
+-- "segments' parameters are laid end to end from its first": the octets in front of a segment's in slot i, none where number 0 starts or restarts
+abbrev pub inFront : Segment Key → Box Key → ℕ → ℕ
+inFront g b i = pick (eqb (g .number) 0) 0 (slotAt keys (b .slots) i .held)
+
+-- an accepted one lays its octets in slot i behind those, up to n, and nowhere else, and sets that slot's record
+pub record SegmentLaid (g : Segment Key) (b : Box Key) (i n : ℕ) (record′ : Slot Key) (slots : List (Slot Key)) (area : List ℕ) : Type 0 where
+  pub slot : i < length (b .slots)
+  pub total : n ≡ inFront g b i + length (g .octets)
+  pub fits : n ≤ room
+  pub laid : area ≡ splice (b .area) (room * i + inFront g b i) (g .octets)
+  pub records : slots ≡ set (b .slots) i record′
+
+abbrev pub SegmentChanges : Segment Key → Box Key → Answer → List (Slot Key) → List ℕ → Type 0
+SegmentChanges g b (refused n) slots area = SegmentRefused g b n slots area
+SegmentChanges g b (taken i n) slots area = SegmentLaid g b i n (awaiting keys g n) slots area
+SegmentChanges g b (completed i n) slots area = SegmentLaid g b i n (empty keys) slots area
+
+-- ---- a refused piece: nothing eaten, nothing changed; a refused silence
+abbrev pub unfedBy : ℕ → Collector → Fed
+unfedBy n c = record { refused = n; eaten = 0; reported = false; state = c }
+
+abbrev pub quietBy : ℕ → Collector → Fell
+quietBy n c = record { refused = n; reported = false; state = c }
+
+-- ---- what a piece that is not refused changes: by what the receiver's answer f ended, and by the segment that a good frame carries
+abbrev pub BySegment : Collector → List ℕ → Out → Option (Segment Key) → List ℕ → List (Slot Key) → List ℕ → Type 0
+BySegment c area o none report′ slots area′ = (report′ ≡ plainAt o) × (slots ≡ slotsOf c) × (area′ ≡ area)
+BySegment c area o (some g) report′ slots area′ =
+    let d = rebuild keys g (boxed (slotsOf c) area) in
+    (report′ ≡ answeredAt o (d .answer) (d .box .area)) × (slots ≡ d .box .slots) × (area′ ≡ d .box .area)
+
+abbrev pub ByOutcome : Collector → List ℕ → List ℕ → Option Out → Bool → List ℕ → List (Slot Key) → List ℕ → Type 0
+ByOutcome c report area none reported report′ slots area′ = (reported ≡ false) × (report′ ≡ report) × (slots ≡ slotsOf c) × (area′ ≡ area)
+ByOutcome c report area (some o) reported report′ slots area′ = (reported ≡ true) × (length report′ ≡ 16) × BySegment c area o (segmentAt o) report′ slots area′
+
+pub record FeedChanges (c : Collector) (report area : List ℕ) (f : Receiver.Fed) (r : Fed) (report′ area′ : List ℕ) : Type 0 where
+  pub eaten : r .eaten ≡ f .eaten
+  pub receiver : r .state .receiver ≡ f .receiver
+  pub rest : ByOutcome c report area (outOf (f .outcome) (f .receiver)) (r .reported) report′ (slotsOf (r .state)) area′
+
+-- ---- "Fields of an absent part .. aren't looked at and are read as 0", of a service
+abbrev pub shownTarget : Target → Target
+shownTarget t = record { object = t .object; instance = t .instance; property = t .property; indexed = t .indexed; index = pick (t .indexed) (t .index) 0 }
+
+abbrev pub shownService : Service → Service
+shownService (ReadProperty t) = ReadProperty (shownTarget t)
+shownService (ReadPropertyAck a) = ReadPropertyAck (record { target = shownTarget (a .target); value = a .value })
+shownService (WriteProperty w) = WriteProperty (record { target = shownTarget (w .target); value = w .value; ranked = w .ranked; priority = pick (w .ranked) (w .priority) 0 })
+shownService (WhoIs w) = WhoIs (record { limited = w .limited; low = pick (w .limited) (w .low) 0; high = pick (w .limited) (w .high) 0 })
+shownService (IAm i) = IAm i
+shownService (Error f) = Error f
