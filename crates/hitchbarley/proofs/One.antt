@@ -1,10 +1,16 @@
--- Any two answers that the promise of an exported call allows are equal, with every number given back and every lent area.
+-- Any two answers that the promise of an exported call allows are equal, with every number given back and every lent area; and there is one.
 use Prim.Native.Nat.{ℕ}
-use mathlib.Core.Path.{_≡_, sym, _∙_}
+use mathlib.Core.Path.{_≡_, refl, sym, _∙_}
 use mathlib.Core.Bool.{Bool}
 use mathlib.Core.List.{List}
-use Rattle.hitchbarley.specs.Answers.{Writes, Fills, FillsTo}
-use Rattle.hitchbarley.specs.Items.{Counts, Lists, Steps}
+use lib.Dec.{eqb}
+use lib.ListN.{length}
+use Rattle.octets.specs.Choice.{pick}
+use Rattle.octets.specs.Laid.{answerOf, areaOf}
+use Rattle.items.specs.Reading.{itemsOf, counted, itemAt, endOf}
+use Rattle.items.specs.Listing.{listedOf, listing}
+use Rattle.hitchbarley.specs.Answers.{writtenNumber, writtenCount, Writes, Fills, FillsTo}
+use Rattle.hitchbarley.specs.Items.{tallyNumber, tallyCount, oneNumber, onePlace, Counts, Lists, Steps}
 use Rattle.hitchbarley.specs.Trunk.{Feeds, Stills, Forgets}
 
 -- two that are one
@@ -41,3 +47,23 @@ module _ {r r′ : ℕ} where
 
   pub forgets-one : {state s s′ : List ℕ} {n : ℕ} → Forgets state n r s → Forgets state n r′ s′ → (r ≡ r′) × (s ≡ s′)
   forgets-one x y = (both-are (x .number) (y .number), both-are (x .stateAfter) (y .stateAfter))
+
+-- there is one (for the promises of a trunk the proved calls themselves show it)
+pub writes-some : (f : ℕ) (o area : List ℕ) → Writes f o area (writtenNumber (answerOf f o area)) (writtenCount (answerOf f o area)) (areaOf f o area)
+writes-some f o area = record { number = refl; count = refl; after = refl }
+
+pub fills-some : (size : ℕ) (good : Bool) (f : ℕ) (o area : List ℕ) → Fills size good f o area (pick (eqb (length area) size) f 60) (pick (eqb (length area) size) (pick good o area) area)
+fills-some size good f o area = record { number = refl; after = refl }
+
+pub fills-to-some : (size : ℕ) (good : Bool) (f : ℕ) (o : List ℕ) (place : ℕ) (area : List ℕ)
+    → FillsTo size good f o place area (pick (eqb (length area) size) f 60) (pick (eqb (length area) size) (pick good place 0) 0) (pick (eqb (length area) size) (pick good o area) area)
+fills-to-some size good f o place area = record { filled = fills-some size good f o area; reached = refl }
+
+pub counts-some : (s : List ℕ) → Counts s (tallyNumber (counted (itemsOf s))) (tallyCount (counted (itemsOf s)))
+counts-some s = record { number = refl; items = refl }
+
+pub lists-some : (s area : List ℕ) → Lists s area (tallyNumber (listedOf (length area) (itemsOf s))) (tallyCount (listedOf (length area) (itemsOf s))) (listing area (itemsOf s))
+lists-some s area = record { number = refl; items = refl; after = refl }
+
+pub steps-some : (s : List ℕ) (at : ℕ) → Steps s at (oneNumber (endOf (itemAt s at))) (onePlace (endOf (itemAt s at)))
+steps-some s at = record { number = refl; place = refl }
