@@ -16,8 +16,16 @@ fn trunk() -> bool {
     unsafe {
         hb_fresh(state.as_mut_ptr(), state.len()) == 0
             && hb_feed(
-                state.as_mut_ptr(), state.len(), frame.as_ptr(), frame.len(), report.as_mut_ptr(), report.len(), area.as_mut_ptr(), area.len(),
-                &mut eaten, &mut reported,
+                state.as_mut_ptr(),
+                state.len(),
+                frame.as_ptr(),
+                frame.len(),
+                report.as_mut_ptr(),
+                report.len(),
+                area.as_mut_ptr(),
+                area.len(),
+                &mut eaten,
+                &mut reported,
             ) == 0
             && (eaten, reported) == (8, 1)
             && report[..] == of("01 00 01 02 01 00 00 00 00 00 00 00 00 00 00 00")[..]

@@ -127,63 +127,20 @@ unsafe extern "C" {
         eaten: *mut usize,
         reported: *mut u8,
     ) -> u8;
-    pub fn hb_silence(
-        state: *mut u8,
-        state_len: usize,
-        report: *mut u8,
-        report_len: usize,
-        reported: *mut u8,
-    ) -> u8;
+    pub fn hb_silence(state: *mut u8, state_len: usize, report: *mut u8, report_len: usize, reported: *mut u8) -> u8;
     pub fn hb_forget(state: *mut u8, state_len: usize, slot: u8) -> u8;
     pub fn hb_header_check(head: *const u8, head_len: usize) -> u8;
     pub fn hb_data_check(payload: *const u8, payload_len: usize) -> u16;
     pub fn hb_header_run(reg: u8, part: *const u8, part_len: usize) -> u8;
     pub fn hb_data_run(reg: u16, part: *const u8, part_len: usize) -> u16;
-    pub fn hb_npdu_read(
-        octets: *const u8,
-        octets_len: usize,
-        fields: *mut u8,
-        fields_len: usize,
-        next: *mut usize,
-    ) -> u8;
-    pub fn hb_npdu_write(
-        fields: *const u8,
-        fields_len: usize,
-        out: *mut u8,
-        out_len: usize,
-        wrote: *mut usize,
-    ) -> u8;
-    pub fn hb_apdu_read(
-        octets: *const u8,
-        octets_len: usize,
-        fields: *mut u8,
-        fields_len: usize,
-        next: *mut usize,
-    ) -> u8;
-    pub fn hb_apdu_write(
-        fields: *const u8,
-        fields_len: usize,
-        out: *mut u8,
-        out_len: usize,
-        wrote: *mut usize,
-    ) -> u8;
+    pub fn hb_npdu_read(octets: *const u8, octets_len: usize, fields: *mut u8, fields_len: usize, next: *mut usize) -> u8;
+    pub fn hb_npdu_write(fields: *const u8, fields_len: usize, out: *mut u8, out_len: usize, wrote: *mut usize) -> u8;
+    pub fn hb_apdu_read(octets: *const u8, octets_len: usize, fields: *mut u8, fields_len: usize, next: *mut usize) -> u8;
+    pub fn hb_apdu_write(fields: *const u8, fields_len: usize, out: *mut u8, out_len: usize, wrote: *mut usize) -> u8;
     pub fn hb_items_count(octets: *const u8, octets_len: usize, count: *mut usize) -> u8;
-    pub fn hb_items_list(
-        octets: *const u8,
-        octets_len: usize,
-        listed: *mut u8,
-        listed_len: usize,
-        count: *mut usize,
-    ) -> u8;
+    pub fn hb_items_list(octets: *const u8, octets_len: usize, listed: *mut u8, listed_len: usize, count: *mut usize) -> u8;
     pub fn hb_item_next(octets: *const u8, octets_len: usize, at: usize, next: *mut usize) -> u8;
-    pub fn hb_item_step(
-        octets: *const u8,
-        octets_len: usize,
-        at: usize,
-        item: *mut u8,
-        item_len: usize,
-        next: *mut usize,
-    ) -> u8;
+    pub fn hb_item_step(octets: *const u8, octets_len: usize, at: usize, item: *mut u8, item_len: usize, next: *mut usize) -> u8;
     pub fn hb_items_write(
         listed: *const u8,
         listed_len: usize,
@@ -193,14 +150,7 @@ unsafe extern "C" {
         out_len: usize,
         wrote: *mut usize,
     ) -> u8;
-    pub fn hb_service_read(
-        kind: u8,
-        choice: u8,
-        params: *const u8,
-        params_len: usize,
-        fields: *mut u8,
-        fields_len: usize,
-    ) -> u8;
+    pub fn hb_service_read(kind: u8, choice: u8, params: *const u8, params_len: usize, fields: *mut u8, fields_len: usize) -> u8;
     pub fn hb_service_write(
         fields: *const u8,
         fields_len: usize,

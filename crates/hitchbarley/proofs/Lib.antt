@@ -4,3 +4,4 @@ pub mod Headers
 pub mod Items
 pub mod Services
 pub mod Trips
+pub mod One

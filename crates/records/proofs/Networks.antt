@@ -1,18 +1,19 @@
 -- The network header's record: its size, its laying, and what is read back of it.
-use Prim.Native.Nat.{ℕ, _+_, _*_, _/_, _%_}
+use Prim.Native.Nat.{ℕ, zero, suc, _+_, _*_, _/_, _%_, _≤_, _<_}
 use native.Mathlib.Omega.{arith}
-use mathlib.Core.Path.{_≡_, sym, _∙_}
+use mathlib.Core.Path.{_≡_, refl, sym, _∙_}
 use mathlib.Core.List.{List, _++_, append-assoc}
 use lib.ListN.{length, take, drop, length-append, length-drop}
 use lib.Seq.{length-take-le}
-use Rattle.octets.specs.Reading.{Octets}
+use lib.Dec.{ltb}
+use Rattle.octets.specs.Reading.{Octets, oct}
 use Rattle.octets.specs.Splice.{splice}
-use Rattle.octets.specs.Has.{Has, has-left, has-right, has-cut, all-has}
+use Rattle.octets.specs.Has.{Has, has-append, has-left, has-right, has-take, has-cut, has-all, all-has}
 use Rattle.npdu.specs.declared.Npdu.{Npdu}
 use Rattle.npdu.specs.Layout.{Kept}
 use Rattle.npdu.specs.Read.{readNpdu}
 use Rattle.npdu.proofs.Exact.{head-sound}
-use Rattle.records.specs.Flag.{flag-back}
+use Rattle.records.specs.Flag.{flag, flag-back}
 use Rattle.records.specs.Network.{front, middle, rest, npduRecord, npduAt}
 use Rattle.records.proofs.Areas.{laid-whole, two-laid}
 
@@ -59,3 +60,54 @@ pub npdu-kept : (o : List ℕ) → length o ≡ 29 → Kept (npduAt o)
 unfolding npduAt
 npdu-kept o k =
     record { dest-kept = length-take-le 7 (drop 8 o) (rw length-drop (omega arith)); source-kept = length-take-le 7 (drop 18 o) (rw length-drop (omega arith)) }
+
+-- ---- conversely, 29 octets whose flags are 0 or 1 are the record of the header that they are read as
+flag-stands : (b : ℕ) → b ≤ 1 → flag (ltb 0 b) ≡ b
+flag-stands zero h = refl
+flag-stands (suc zero) h = refl
+flag-stands (suc (suc b)) h = absurd (omega arith)
+
+two-stands : (a b : ℕ) → b < 256 → ((a * 256 + b) / 256 ≡ a) × ((a * 256 + b) % 256 ≡ b)
+two-stands a b h = (omega arith, omega arith)
+
+pub record Flagged (o : List ℕ) : Type 0 where
+  pub message : oct o 0 ≤ 1
+  pub dest : oct o 1 ≤ 1
+  pub source : oct o 2 ≤ 1
+  pub reply : oct o 3 ≤ 1
+
+module _ (o : List ℕ) (os : Octets o) (size : length o ≡ 29) (f : Flagged o) where
+  front-stands : Has o 0 (front (npduAt o))
+  unfolding npduAt
+  front-stands =
+      let n = two-stands (oct o 5) (oct o 6) (os 6) in
+      rw (flag-stands (oct o 0) (f .message), flag-stands (oct o 1) (f .dest), flag-stands (oct o 2) (f .source), flag-stands (oct o 3) (f .reply), n .0, n .1)
+      (omega arith, refl, (omega arith, refl, (omega arith, refl, (omega arith, refl, (omega arith, refl, (omega arith, refl, (omega arith, refl, (omega arith, refl, omega arith))))))))
+
+  middle-stands : Has o 15 (middle (npduAt o))
+  unfolding npduAt
+  middle-stands =
+      let n = two-stands (oct o 15) (oct o 16) (os 16) in
+      rw (n .0, n .1) (omega arith, refl, (omega arith, refl, (omega arith, refl, omega arith)))
+
+  rest-stands : Has o 25 (rest (npduAt o))
+  unfolding npduAt
+  rest-stands =
+      let n = two-stands (oct o 27) (oct o 28) (os 28) in
+      rw (n .0, n .1) (omega arith, refl, (omega arith, refl, (omega arith, refl, (omega arith, refl, omega arith))))
+
+  addresses-stand : Has o 8 (npduAt o .dadr) × Has o 18 (npduAt o .sadr)
+  unfolding npduAt
+  addresses-stand = (has-take o 8 7 (omega arith), has-take o 18 7 (omega arith))
+
+  pub npdu-stands : npduRecord (npduAt o) ≡ o
+  unfolding npduRecord
+  npdu-stands =
+      let h = npduAt o in
+      let k = npdu-kept o size in
+      let a = addresses-stand in
+      let r₃ : Has o 18 (h .sadr ++ rest h) = has-append o 18 (h .sadr) (rest h) (a .1) (rw (k .source-kept) rest-stands) in
+      let r₂ : Has o 15 (middle h ++ (h .sadr ++ rest h)) = has-append o 15 (middle h) (h .sadr ++ rest h) middle-stands r₃ in
+      let r₁ : Has o 8 (h .dadr ++ (middle h ++ (h .sadr ++ rest h))) = has-append o 8 (h .dadr) (middle h ++ (h .sadr ++ rest h)) (a .0) (rw (k .dest-kept) r₂) in
+      let r₀ : Has o 0 (npduRecord h) = has-append o 0 (front h) (h .dadr ++ (middle h ++ (h .sadr ++ rest h))) front-stands r₁ in
+      sym (has-all o (npduRecord h) r₀ (npdu-size h k ∙ sym size))
