@@ -1,5 +1,9 @@
 pub mod Items
 pub mod Refusals
 pub mod Promise
+pub mod Phases
+pub mod Going
+pub mod Cuts
+pub mod Beyond
 pub mod Trips
 pub mod Worked

@@ -1,4 +1,5 @@
 // The six services, written into a lent area.
+mod judge;
 mod layouts;
 
 use octets::Written;
