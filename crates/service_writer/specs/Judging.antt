@@ -22,15 +22,15 @@ use Rattle.service_writer.specs.declared.judge.Reached.{Reached}
 use Rattle.service_writer.specs.declared.judge.Cut.{Cut}
 
 -- "WriteProperty 15: as the ack, with optional context 4 priority 1 to 16."
-unfoldable pub behindOf : Bool → Phase
-behindOf request = pick request Behind Done
+unfoldable pub shutOf : Bool → Phase
+shutOf request = pick request Behind Done
 
 unfoldable pub rankOf : ℕ → Phase
 rankOf x = pick (ltb 0 x) (Wrong x) Done
 
 -- the layout after one more record
 unfoldable pub phaseAfter : List ℕ → Bool → Phase → Rec → Phase
-phaseAfter s request Inside r = pick (both (eqb (r .kind) 3) (eqb (r .depth) 0)) (behindOf request) Inside
+phaseAfter s request Inside r = pick (both (eqb (r .kind) 3) (eqb (r .depth) 0)) (shutOf request) Inside
 phaseAfter s request Behind r = pick (is 1 4 r) (rankOf (numberRule s 1 16 r)) (Wrong 42)
 phaseAfter s request Done r = Wrong 42
 phaseAfter s request (Wrong x) r = Wrong x

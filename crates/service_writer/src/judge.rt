@@ -8,7 +8,7 @@ ghost use Rattle.tags.specs.Types.{longest};
 ghost use Rattle.items.specs.Records.{rec};
 ghost use Rattle.items.specs.Reading.{walk};
 ghost use Rattle.services.specs.Parts.{numberRule};
-ghost use Rattle.service_writer.specs.Judging.{behindOf, rankOf, phaseAfter, phaseFault, isEarly, pastItem, outFault, reading, cutOf, cutLength, movedTo, refusedWith, Ready, Halted, Small, FitsOne, TagFits, Stepped, Ran};
+ghost use Rattle.service_writer.specs.Judging.{shutOf, rankOf, phaseAfter, phaseFault, isEarly, pastItem, outFault, reading, cutOf, cutLength, movedTo, refusedWith, Ready, Halted, Small, FitsOne, TagFits, Stepped, Ran};
 
 // Where the layout stands: in group 3; behind it, where a priority may come; where no item may come any more; or refused.
 pub enum Phase {
@@ -39,7 +39,7 @@ pub struct Cut {
 
 // What may come behind group 3: a priority in a request, nothing in an ack.
 fn after_group(request: bool) -> Phase
-    ensures { λ r. ⌜ r ≡ behindOf request ⌝ }
+    ensures { λ r. ⌜ r ≡ shutOf request ⌝ }
 {
     if request {
         return Phase::Behind;
