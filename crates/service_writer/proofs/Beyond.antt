@@ -1,7 +1,7 @@
 -- What is left of a value where its reading stopped, with the octets behind it.
 use Prim.Native.Nat.{ℕ, _+_, _-_, _≤_, _<_}
 use native.Mathlib.Omega.{arith}
-use mathlib.Core.Path.{_≡_, refl, sym, ap, subst, _∙_}
+use mathlib.Core.Path.{_≡_, sym, ap, subst, _∙_}
 use mathlib.Core.List.{List, [], _∷_, _++_}
 use mathlib.Core.Bool.{Bool}
 use lib.ListN.{length, getD, take, drop, length-append, length-drop}
@@ -10,7 +10,6 @@ use borrow.Author.Tests.{lt-ltb, le-ltb, ne-eqb}
 use Rattle.octets.specs.Splice.{splice, splice-then, splice-inside}
 use Rattle.tags.specs.Types.{longest}
 use Rattle.tags.specs.Head.{headAt}
-use Rattle.tags.specs.declared.Tag.{Tag}
 use Rattle.tags.specs.declared.Tag.the-variants.{Item}
 use Rattle.items.specs.Reading.{walk}
 use Rattle.service_writer.specs.declared.judge.Phase.the-variants.{Inside}

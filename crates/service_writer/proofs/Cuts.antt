@@ -1,18 +1,16 @@
 -- An item that the octets do not end and that has nine of them: its tag is all there, and what follows decides by its length alone.
 use Prim.Native.Nat.{ℕ, _+_, _-_, _*_, _/_, _%_, _≤_, _<_}
 use native.Mathlib.Omega.{arith}
-use mathlib.Core.Path.{_≡_, refl, sym, ap, _∙_}
+use mathlib.Core.Path.{_≡_, refl}
 use mathlib.Core.List.{List, _++_}
 use mathlib.Core.Bool.{Bool, true, false}
 use lib.ListN.{length, length-append, List·getD-append}
 use lib.Dec.{ltb, leb, eqb}
-use borrow.Author.Tests.{lt-ltb, le-ltb, lt-leb, ltb-true, ltb-false, eqb-true, eqb-false, eq-eqb, ne-eqb}
+use borrow.Author.Tests.{lt-ltb, le-ltb, lt-leb, ltb-true, ltb-false, eqb-true, eqb-false}
 use Rattle.octets.specs.Choice.{pick, pick-case, pick-so, by-test}
 use Rattle.octets.specs.Reading.{oct, be16}
 use Rattle.tags.specs.Types.{longest, least, most}
 use Rattle.tags.specs.Head.{andThen, numberAt, twoAt, fourAt, lengthAt, firstRule, firstContent, wholeAt, signBad, signedAt, contentsAt, contextAt, applicationAt, headAt}
-use Rattle.tags.specs.declared.Field.{Field}
-use Rattle.tags.specs.declared.Field.the-variants.{Is, Bad}
 use Rattle.tags.specs.declared.Tag.{Tag}
 use Rattle.tags.specs.declared.Tag.the-variants.{Item, Opening, Closing, Refused}
 use Rattle.service_writer.specs.declared.judge.Cut.{Cut}

@@ -1,38 +1,36 @@
 -- Reading the octets of a target, a value and an optional priority: the target's items and the opening are read, and the rest decides.
-use Prim.Native.Nat.{ℕ, zero, suc, _+_, _*_, _≤_, _<_}
+use Prim.Native.Nat.{ℕ, suc, _+_, _*_, _≤_, _<_}
 use native.Mathlib.Omega.{arith}
 use mathlib.Core.Path.{_≡_, refl, sym, ap, subst, _∙_}
 use mathlib.Core.List.{List, [], _∷_, _++_, append-nil, append-assoc}
 use mathlib.Core.Bool.{Bool, true, false}
 use lib.ListN.{length, length-append}
 use lib.Dec.{ltb, eqb}
-use borrow.Author.Tests.{le-ltb, lt-ltb, lt-leb}
+use borrow.Author.Tests.{le-ltb}
 use Rattle.octets.specs.Choice.{pick, pick-case, both, non, by-test}
 use Rattle.octets.specs.Has.{Has, has-left, has-right, has-bound, all-has}
-use Rattle.octets.specs.Numbers.{digits, widthOf, length-digits, width-range}
+use Rattle.octets.specs.Numbers.{widthOf, length-digits, width-range}
 use Rattle.tags.specs.Types.{longest}
-use Rattle.tags.specs.Head.{headAt}
 use Rattle.tags.specs.Layout.{Thing, encode, highBits, numberOctets, tagOf, tagLength}
 use Rattle.tags.specs.Layout.Thing.{context, opening, closing}
 use Rattle.tags.proofs.Exact.{encode-length, encode-some, head-complete}
 use Rattle.items.specs.Records.{Rec, rec}
-use Rattle.items.specs.Reading.{Out, more, step, walk, itemsOf, mostItems, deepest}
+use Rattle.items.specs.Reading.{Out, more, step, walk, itemsOf, mostItems}
 use Rattle.items.specs.Reading.Out.{good, bad}
 use Rattle.items.specs.Grammar.{encodeAll, AllValid, Balanced, recordOf, recordsFrom}
 use Rattle.items.proofs.Machine.{more-more, more-none, walk-steps}
-use Rattle.services.specs.Parts.{Then, is, present, wanted, objectRule, numberRule, numberOf, anyNumber, optionalNumber, afterGroup, group, last}
+use Rattle.services.specs.Parts.{is, present, wanted, objectRule, numberRule, numberOf, anyNumber, optionalNumber, afterGroup, group, last}
 use Rattle.services.specs.Reading.{lastInstance, target, targetParts, layoutFor, afterTags, readService}
 use Rattle.services.specs.Reading as service
 use Rattle.services.specs.Layout.{Pointed, Pointing, shortest, optional, pointed}
 use Rattle.services.specs.Shows.{pointedOf}
 use Rattle.services.specs.declared.Answer.{Answer}
-use Rattle.services.specs.declared.Answer.the-variants.{Good, Refused}
+use Rattle.services.specs.declared.Answer.the-variants.{Refused}
 use Rattle.services.specs.declared.Service.{Service}
 use Rattle.services.specs.declared.Target.{Target}
 use Rattle.services.proofs.Things.{Here}
 use Rattle.services.proofs.Pointed.{targetOf, target-reads}
 use Rattle.service_writer.specs.Writing.{ranked, frontOf, behindOf, roomOf, refusalOf, readFault}
-use Rattle.service_writer.specs.declared.judge.Phase.{Phase}
 use Rattle.service_writer.specs.declared.judge.Phase.the-variants.{Inside, Behind, Done, Wrong}
 use Rattle.service_writer.specs.Judging.{shutOf, rankOf, phaseAfter, phaseFault, leftFault, outFault}
 use Rattle.service_writer.proofs.Items.{ranked-parts}

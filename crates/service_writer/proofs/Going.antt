@@ -7,16 +7,14 @@ use mathlib.Core.Bool.{Bool, true, false}
 use mathlib.Core.Logic.{⊎-elim}
 use lib.ListN.{length, length-append, getD, set, take, drop, take-append-drop}
 use lib.Seq.{length-take-le}
-use lib.Dec.{ltb, leb, eqb}
 use borrow.Author.Tests.{lt-leb, le-leb, eq-eqb, ne-eqb, eqb-true}
-use Rattle.octets.specs.Choice.{pick}
 use Rattle.tags.specs.Types.{longest}
 use Rattle.tags.specs.Head.{headAt}
 use Rattle.tags.specs.declared.Tag.{Tag}
 use Rattle.tags.specs.declared.Tag.the-variants.{Item, Opening, Closing}
 use Rattle.tags.proofs.Bounds.{TagIn, head-in}
-use Rattle.items.specs.Records.{Rec, rec}
-use Rattle.items.specs.Reading.{Out, more, ending, closes, step, walk, deepest}
+use Rattle.items.specs.Records.{rec}
+use Rattle.items.specs.Reading.{Out, ending, closes, step, walk, deepest}
 use Rattle.items.specs.Reading.Out.{good, bad}
 use Rattle.items.proofs.Machine.{walk-ends, walk-steps}
 use Rattle.items.proofs.HeadFront.{head-front}
@@ -24,7 +22,7 @@ use Rattle.item_judge.specs.Kinds.{stack}
 use Rattle.item_judge.proofs.Stack.{stack-length, stack-push}
 use Rattle.service_writer.specs.declared.judge.Phase.{Phase}
 use Rattle.service_writer.specs.declared.judge.Reached.{Reached}
-use Rattle.service_writer.specs.Judging.{phaseAfter, phaseFault, outFault, leftFault, openOf, reading, pastItem, movedTo, refusedWith, isEarly, Ready, FitsOne, TagFits, Ends, Stepped, Stopped, Ran}
+use Rattle.service_writer.specs.Judging.{phaseAfter, phaseFault, outFault, leftFault, openOf, reading, pastItem, movedTo, refusedWith, isEarly, Ready, FitsOne, TagFits, Ends, Stepped, Ran}
 use Rattle.service_writer.proofs.Phases.{phase-front, fault-moved, fault-more, fault-bad}
 use Rattle.service_writer.proofs.Refusals.{TagSome, head-some}
 
