@@ -8,7 +8,7 @@ use mathlib.Core.List.{List, [], _∷_}
 use lib.Dec.{eqb, ltb, leb}
 use lib.ListN.{length, replicate, length-replicate, List·getD-eq-default}
 use borrow.Author.Tests.{eqb-true, eq-eqb, ltb-true, ltb-false, le-ltb, leb-false, lt-leb}
-use Rattle.octets.specs.Choice.{pick, both, by-test}
+use Rattle.octets.specs.Choice.{pick, both, by-test, both-left, both-right}
 use Rattle.frames.specs.Step.{most, lengthOf, dataSound, soundIn, soundOf}
 use Rattle.frames.specs.declared.Phase.{Phase}
 use Rattle.frames.specs.declared.Phase.the-variants.{Hunting, Preamble, Header, Data}
@@ -16,7 +16,7 @@ use Rattle.frames.specs.declared.Receiver.{Receiver}
 use Rattle.frames.proofs.Calls.{feed-refused, silence-refused}
 use Rattle.messages.specs.Slots.{Slot, room, empty, slotAt, openTo, lowest}
 use Rattle.messages.specs.Sound.{twice, sound}
-use Rattle.messages.proofs.Tests.{never, both-left, both-right, some-true}
+use Rattle.messages.proofs.Tests.{never, some-true}
 use Rattle.messages.proofs.Lowest.{lowest-some}
 use Rattle.messages.proofs.Sound.{good-of}
 use Rattle.rebuild.specs.View.{keys}

@@ -9,13 +9,13 @@ use mathlib.Core.Option.{Option, none, some}
 use lib.Dec.{eqb, ltb}
 use lib.ListN.{length, set}
 use borrow.Author.Tests.{ltb-false, eqb-true, eqb-false}
-use Rattle.octets.specs.Choice.{both, non, pick-case, pick-cases, by-test}
+use Rattle.octets.specs.Choice.{both, non, pick-case, pick-cases, by-test, pick-false, pick-true}
 use Rattle.octets.specs.Splice.{splice}
 use Rattle.messages.specs.Slots.{room, Segment, Slot, Box, boxed, lowest, orElse, isSome, empty, openTo, isFree, slotOf}
 use Rattle.messages.specs.Rows.{Answer, Done, kept, lost, freeAt, recordAt, settle, settled, fitted, before, rows, rebuild}
 use Rattle.messages.specs.Rows.Answer.{refused, taken, completed}
 use Rattle.messages.proofs.Lowest.{lowest-some}
-use Rattle.messages.proofs.Tests.{never, pick-true, pick-false}
+use Rattle.messages.proofs.Tests.{never}
 use Rattle.rebuild.specs.View.{keys, view, segmentOf}
 use Rattle.rebuild.specs.Calls as Rebuild
 use Rattle.rebuild.specs.declared.Key.{Key}

@@ -7,14 +7,14 @@ use mathlib.Core.List.{List, [], _∷_}
 use mathlib.Core.Bool.{Bool, true, false}
 use lib.Dec.{ltb, eqb}
 use borrow.Author.Tests.{ltb-true, eq-eqb, eqb-true}
-use Rattle.octets.specs.Choice.{pick-case, pick-cases, both, non}
+use Rattle.octets.specs.Choice.{pick-case, pick-cases, both, non, both-left, both-right}
 use Rattle.octets.specs.Reading.{oct}
 use Rattle.octets.specs.Numbers.{longForm}
 use Rattle.items.specs.Records.{Rec}
 use Rattle.items.specs.Reading.{Out, itemsOf, counted}
 use Rattle.items.specs.Reading.Out.{good, bad}
 use Rattle.items.specs.declared.Tally.{Tally}
-use Rattle.messages.proofs.Tests.{never, both-left, both-right}
+use Rattle.messages.proofs.Tests.{never}
 use Rattle.services.specs.Parts.{Then, is, present, wanted, numberRule, numberOf, objectRule, typeOf, optionalNumber, group, afterGroup, last}
 use Rattle.services.specs.Reading.{targetParts, deviceRule, layoutFor, afterTags, readService}
 use Rattle.services.specs.Reading as reading

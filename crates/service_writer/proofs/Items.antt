@@ -2,7 +2,7 @@
 use Prim.Native.Nat.{ℕ, zero, suc, _+_, _-_, _*_, _≤_, _<_}
 use native.Mathlib.Omega.{arith}
 use mathlib.Core.Path.{_≡_, refl, sym, ap, subst, _∙_}
-use mathlib.Core.List.{List, [], _∷_, _++_, append-nil}
+use mathlib.Core.List.{List, [], _∷_, _++_, append-nil, append-assoc}
 use mathlib.Core.Bool.{Bool, true, false}
 use lib.ListN.{length, take, drop, length-append, drop-of-length-le}
 use lib.Seq.{take-length}
@@ -23,7 +23,7 @@ use Rattle.services.specs.declared.WhoIs.{WhoIs}
 use Rattle.services.specs.declared.IAm.{IAm}
 use Rattle.services.specs.declared.Fault.{Fault}
 use Rattle.services.specs.declared.Target.{Target}
-use Rattle.service_writer.specs.Writing.{numberItem, grouped, ranked, wideTarget, Put}
+use Rattle.service_writer.specs.Writing.{numberItem, grouped, ranked, frontOf, behindOf, wideTarget, Put}
 
 -- the last octets of four
 pub last-digits : (v w : ℕ) → 1 ≤ w → w ≤ 4 → drop (4 - w) (digits 4 v) ≡ digits w v
@@ -198,40 +198,30 @@ device-length i =
     let d = length-digits 4 (33554432 + i .instance) in
     rw (device-octets i) (simp length-append (omega (arith, item-length 32 (i .longest), item-length 144 (i .segmentation), item-length 32 (i .vendor))))
 
--- a value in its group
-grouped-octets : (value : List ℕ) → grouped value ≡ (62 ∷ []) ++ (value ++ (63 ∷ []))
-unfolding grouped encode highBits numberOctets
-grouped-octets value = refl
+-- before a value, and behind it
+pub front-length : (t : Target) → length (frontOf t) ≤ 16
+unfolding frontOf encode highBits numberOctets
+front-length t = rw length-append (omega (arith, target-length t))
 
-pub grouped-length : (value : List ℕ) → length (grouped value) ≡ length value + 2
-grouped-length value = rw (grouped-octets value) (simp length-append (omega arith))
+pub front-put : (t : Target) (area l later : List ℕ) (a : ℕ) → 24 ≤ length area → Put area 0 (encodeAll (pointed (pointedOf t))) a l → later ≡ splice l a (62 ∷ []) → Put area 0 (frontOf t) (a + 1) later
+unfolding frontOf encode highBits numberOctets
+front-put t area l later a h p e = put-then (encodeAll (pointed (pointedOf t))) (62 ∷ []) (omega (arith, target-length t)) p (record { next = omega arith; laid = e })
 
-pub value-put : (value area l m later : List ℕ) (at : ℕ) → at + length value + 2 ≤ length area → l ≡ splice area at (62 ∷ []) → m ≡ splice l (at + 1) value → later ≡ splice m (at + 1 + length value) (63 ∷ []) → Put area at (grouped value) (at + 1 + length value + 1) later
-value-put value area l m later at h e d f =
-    let k : length l ≡ length area = rw e (splice-length area at (62 ∷ []) (omega arith)) in
-    let w : later ≡ splice l (at + 1) (value ++ (63 ∷ [])) = splice-then l (at + 1) value (63 ∷ []) (omega arith) d f in
-    record {
-      next = omega (arith, grouped-length value);
-      laid = rw (grouped-octets value) (splice-then area at (62 ∷ []) (value ++ (63 ∷ [])) (rw length-append (omega arith)) e w);
-    }
+pub behind-length : (here : Bool) (priority : ℕ) → length (behindOf here priority) ≤ 6
+unfolding behindOf encode highBits numberOctets
+behind-length here priority = omega (arith, optional-length here 4 priority (omega arith))
 
-pub ranked-put : (t : Target) (value : List ℕ) (here : Bool) (priority : ℕ) (area l m later : List ℕ) (a b r : ℕ) → length value + 24 ≤ length area → Put area 0 (encodeAll (pointed (pointedOf t))) a l → Put l a (grouped value) b m
-    → Put m b (encodeAll (optional here 4 priority)) r later → Put area 0 (ranked t value here priority) r later
-unfolding ranked
-ranked-put t value here priority area l m later a b r h p q w =
-    let x = target-length t in
-    let y = grouped-length value in
-    let z = optional-length here 4 priority (omega arith) in
-    let k : length l ≡ length area = put-length (omega arith) p in
-    put-then (encodeAll (pointed (pointedOf t))) (grouped value ++ encodeAll (optional here 4 priority)) (rw length-append (omega arith)) p (put-then (grouped value) (encodeAll (optional here 4 priority)) (omega (arith, p .next)) q w)
+pub behind-put : (here : Bool) (priority : ℕ) (area l later : List ℕ) (r : ℕ) → 8 ≤ length area → l ≡ splice area 0 (63 ∷ []) → Put l 1 (encodeAll (optional here 4 priority)) r later → Put area 0 (behindOf here priority) r later
+unfolding behindOf encode highBits numberOctets
+behind-put here priority area l later r h e p = put-then (63 ∷ []) (encodeAll (optional here 4 priority)) (omega (arith, optional-length here 4 priority (omega arith))) (record { next = omega arith; laid = e }) p
 
-pub ranked-length : (t : Target) (value : List ℕ) (here : Bool) (priority : ℕ) → (length value + 2 ≤ length (ranked t value here priority)) × (length (ranked t value here priority) ≤ length value + 22)
-unfolding ranked
-ranked-length t value here priority =
-    let x = target-length t in
-    let y = grouped-length value in
-    let z = optional-length here 4 priority (omega arith) in
-    (simp length-append (omega arith), simp length-append (omega arith))
+-- the three together
+pub ranked-parts : (t : Target) (value : List ℕ) (here : Bool) (priority : ℕ) → ranked t value here priority ≡ frontOf t ++ (value ++ behindOf here priority)
+unfolding ranked grouped frontOf behindOf encode highBits numberOctets
+ranked-parts t value here priority = simp append-assoc
+
+pub ranked-length : (t : Target) (value : List ℕ) (here : Bool) (priority : ℕ) → length (ranked t value here priority) ≡ length (frontOf t) + length value + length (behindOf here priority)
+ranked-length t value here priority = rw (ranked-parts t value here priority) (simp length-append (omega arith))
 
 -- what was laid at the front
 pub put-cut : (area o later : List ℕ) (n : ℕ) → length o ≤ length area → Put area 0 o n later → take n later ≡ o

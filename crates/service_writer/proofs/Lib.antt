@@ -1,5 +1,10 @@
 pub mod Items
 pub mod Refusals
+pub mod Phases
+pub mod Going
+pub mod Cuts
+pub mod Beyond
+pub mod Fronts
 pub mod Promise
 pub mod Trips
 pub mod Worked

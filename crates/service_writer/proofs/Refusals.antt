@@ -29,7 +29,7 @@ abbrev FieldSome : Field → Type 0
 FieldSome (Field.Is v p) = Unit {0}
 FieldSome (Field.Bad x) = 0 < x
 
-abbrev TagSome : Tag → Type 0
+abbrev pub TagSome : Tag → Type 0
 TagSome (Item k n v p l) = Unit {0}
 TagSome (Opening n p) = Unit {0}
 TagSome (Closing n p) = Unit {0}

@@ -45,6 +45,17 @@ grouped value = tag.encode (opening 3) ++ (value ++ tag.encode (closing 3))
 unfoldable pub ranked : Target → List ℕ → Bool → ℕ → List ℕ
 ranked t value here priority = encodeAll (pointed (pointedOf t)) ++ (grouped value ++ encodeAll (optional here 4 priority))
 
+-- what stands before the value in it, and behind it
+unfoldable pub frontOf : Target → List ℕ
+frontOf t = encodeAll (pointed (pointedOf t)) ++ tag.encode (opening 3)
+
+unfoldable pub behindOf : Bool → ℕ → List ℕ
+behindOf here priority = tag.encode (closing 3) ++ encodeAll (optional here 4 priority)
+
+-- how many items may begin there: a target has two or three, and the opening is one
+unfoldable pub roomOf : Target → ℕ
+roomOf t = pick (t .indexed) 2044 2045
+
 -- the octets of a service with a value's octets; one without a value does not look at them
 unfoldable pub octetsOf : Service → List ℕ → List ℕ
 octetsOf (ReadProperty t) value = encode (messageOf (ReadProperty t) [])
@@ -87,9 +98,9 @@ readFault kind choice o = refusalOf (readService kind choice o)
 unfoldable pub faultOf : Service → List ℕ → ℕ
 faultOf v value = pick (tooWide v) 41 (readFault (kindOf v) (choiceOf v) (octetsOf v value))
 
--- the same for a target, a value and an optional priority
-unfoldable pub rankedFault : ℕ → ℕ → Target → List ℕ → Bool → ℕ → ℕ
-rankedFault kind choice t value here priority = pick (wideTarget t) 41 (readFault kind choice (ranked t value here priority))
+-- the same for a target, a value and an optional priority: of WriteProperty's request, else of ReadProperty's ack
+unfoldable pub rankedFault : Bool → Target → List ℕ → Bool → ℕ → ℕ
+rankedFault request t value here priority = pick (wideTarget t) 41 (readFault (pick request 0 3) (pick request 15 12) (ranked t value here priority))
 
 -- a number's item: its tag octet, to which the length is added, and the number in its shortest form
 unfoldable pub numberItem : ℕ → ℕ → List ℕ

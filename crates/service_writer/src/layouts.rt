@@ -15,7 +15,7 @@ ghost use Rattle.items.specs.Grammar.{encodeAll};
 ghost use Rattle.services.specs.Reading.{lastInstance};
 ghost use Rattle.services.specs.Layout.{shortest, pointed, encode};
 ghost use Rattle.services.specs.Shows.{pointedOf, messageOf};
-ghost use Rattle.service_writer.specs.Writing.{numberItem, grouped, ranked, wideTarget, Put};
+ghost use Rattle.service_writer.specs.Writing.{numberItem, frontOf, behindOf, wideTarget, Put};
 
 // The octets that a number takes.
 fn width(v: u32) -> usize
@@ -111,27 +111,24 @@ pub fn put_error(out: &mut [u8], f: Fault) -> usize
     put_item(out, a, 144, f.code)
 }
 
-// The value's octets in a group 3.
-fn put_value(out: &mut [u8], at: usize, value: &[u8]) -> usize
-    requires { ⌜ at + length (now value) + 2 ≤ length (now out) ⌝ }
-    ensures { λ r. ⌜ Put (now (out .entry)) at (grouped (now (value .entry))) r (now (out .exit)) ⌝ }
-{
-    octets::put(out, at, 62);
-    octets::copy(value, out, at + 1);
-    let e = at + 1 + value.len();
-    octets::put(out, e, 63);
-    e + 1
-}
-
-// A target, a value and, where it is there, a priority.
-pub fn put_ranked(out: &mut [u8], t: Target, value: &[u8], here: bool, priority: u8) -> usize
-    requires { ⌜ (length (now value) + 24 ≤ length (now out)) × (wideTarget t ≡ false) ⌝ }
-    ensures { λ r. ⌜ Put (now (out .entry)) 0 (ranked t (now (value .entry)) here priority) r (now (out .exit)) ⌝ }
+// What stands before a value: its target, and the opening of group 3.
+pub fn put_front(out: &mut [u8], t: Target) -> usize
+    requires { ⌜ (24 ≤ length (now out)) × (wideTarget t ≡ false) ⌝ }
+    ensures { λ r. ⌜ Put (now (out .entry)) 0 (frontOf t) r (now (out .exit)) ⌝ }
 {
     let a = put_target(out, t);
-    let b = put_value(out, a, value);
+    octets::put(out, a, 62);
+    a + 1
+}
+
+// What stands behind it: the closing and, where it is there, a priority.
+pub fn put_behind(out: &mut [u8], here: bool, priority: u8) -> usize
+    requires { ⌜ 8 ≤ length (now out) ⌝ }
+    ensures { λ r. ⌜ Put (now (out .entry)) 0 (behindOf here priority) r (now (out .exit)) ⌝ }
+{
+    octets::put(out, 0, 63);
     if here {
-        return put_item(out, b, 72, priority as u32);
+        return put_item(out, 1, 72, priority as u32);
     }
-    b
+    1
 }

@@ -1,4 +1,5 @@
 // The six services, written into a lent area.
+mod judge;
 mod layouts;
 
 use octets::Written;
@@ -9,9 +10,12 @@ use services::Service;
 use services::Target;
 use services::WhoIs;
 ghost use mathlib.Core.Path.{_≡_};
-ghost use mathlib.Core.List.{[]};
+ghost use mathlib.Core.List.{[], _++_};
+ghost use lib.ListN.{length};
+ghost use Prim.Native.Nat.{_+_, _≤_};
 ghost use Rattle.octets.specs.Laid.{Laid};
-ghost use Rattle.service_writer.specs.Writing.{wideTarget, readFault, ranked, rankedFault, octetsOf, faultOf};
+ghost use Rattle.tags.specs.Types.{longest};
+ghost use Rattle.service_writer.specs.Writing.{roomOf, wideTarget, readFault, ranked, rankedFault, octetsOf, faultOf};
 
 // The service with the value's octets, from the area's first octet. A service without a value does not look at them, and none looks at the span inside it.
 pub fn write(v: Service, value: &[u8], out: &mut [u8]) -> Written
@@ -19,9 +23,9 @@ pub fn write(v: Service, value: &[u8], out: &mut [u8]) -> Written
 {
     match v {
         Service::ReadProperty(t) => write_target(t, out),
-        Service::ReadPropertyAck(a) => write_ranked(3, 12, a.target, value, false, 0, out),
+        Service::ReadPropertyAck(a) => write_ranked(false, a.target, value, false, 0, out),
         Service::WriteProperty(w) => {
-            write_ranked(0, 15, w.target, value, w.ranked, w.priority, out)
+            write_ranked(true, w.target, value, w.ranked, w.priority, out)
         }
         Service::WhoIs(w) => write_limits(w, out),
         Service::IAm(i) => write_device(i, out),
@@ -95,17 +99,46 @@ fn write_error(f: Fault, out: &mut [u8]) -> Written
     settle(5, 12, &work[..n], out)
 }
 
-// A target, a value and an optional priority: over 16,384 octets of value the reading gives 39, and else the whole fits the work area.
+// The items that may begin behind a target and the opening of group 3.
+fn room(t: Target) -> usize
+    ensures { λ r. ⌜ r ≡ roomOf t ⌝ }
+{
+    let here = t.indexed;
+    if here {
+        return 2044;
+    }
+    2045
+}
+
+// Three runs of octets one after the other, where x is no refusal. 61 comes last.
+fn lay(x: u8, front: &[u8], value: &[u8], behind: &[u8], out: &mut [u8]) -> Written
+    requires { ⌜ length (now front) + length (now value) + length (now behind) ≤ longest ⌝ }
+    ensures { λ r. ⌜ Laid x (now (front .entry) ++ (now (value .entry) ++ now (behind .entry))) (now (out .entry)) r (now (out .exit)) ⌝ }
+{
+    if 0 < x {
+        return Written::Refused(x);
+    }
+    let a = front.len() + value.len();
+    let n = a + behind.len();
+    if out.len() < n {
+        return Written::Refused(61);
+    }
+    octets::copy(front, out, 0);
+    octets::copy(value, out, front.len());
+    octets::copy(behind, out, a);
+    Written::Wrote(n)
+}
+
+// A target, a value and an optional priority, which a request may have: what reading them gives is judged where the value stands.
 fn write_ranked(
-    kind: u8,
-    choice: u8,
+    request: bool,
     t: Target,
     value: &[u8],
     here: bool,
     priority: u8,
     out: &mut [u8],
 ) -> Written
-    ensures { λ r. ⌜ Laid (rankedFault kind choice t (now (value .entry)) here priority) (ranked t (now (value .entry)) here priority) (now (out .entry)) r (now (out .exit)) ⌝ }
+    ensures { λ r. ⌜ Laid (rankedFault request t (now (value .entry)) here priority) (ranked t (now (value .entry)) here priority) (now (out .entry)) r (now (out .exit)) ⌝ }
 {
     if wide(t) {
         return Written::Refused(41);
@@ -113,7 +146,13 @@ fn write_ranked(
     if 16384 < value.len() {
         return Written::Refused(39);
     }
-    let mut work = [0u8; 16408];
-    let n = layouts::put_ranked(&mut work, t, value, here, priority);
-    settle(kind, choice, &work[..n], out)
+    let mut front = [0u8; 24];
+    let f = layouts::put_front(&mut front, t);
+    let mut behind = [0u8; 8];
+    let b = layouts::put_behind(&mut behind, here, priority);
+    if 16384 < f + value.len() + b {
+        return Written::Refused(39);
+    }
+    let x = judge::judge(value, &behind[..b], request, room(t));
+    lay(x, &front[..f], value, &behind[..b], out)
 }

@@ -1,7 +1,7 @@
 // The octets of a state, laid into an area.
 use collector::Collector;
-use frames::Phase;
 use frames::Link;
+use frames::Phase;
 use rebuild::Slot;
 use rebuild::Slots;
 ghost use mathlib.Core.Path.{_≡_};
