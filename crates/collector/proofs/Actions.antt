@@ -1,5 +1,5 @@
 -- The ways in which a function comes to do what a frame's content does.
-use Prim.Native.Nat.{ℕ, _+_, _*_, _≤_}
+use Prim.Native.Nat.{ℕ}
 use mathlib.Core.Path.{_≡_, refl, sym, ap, subst, _∙_}
 use mathlib.Core.Bool.{Bool, true, false}
 use mathlib.Core.List.{List}
@@ -12,7 +12,7 @@ use Rattle.apdu.specs.Fields.{segmentOf}
 use Rattle.apdu.specs.declared.Pdu.{Pdu}
 use Rattle.trunk.specs.Reading.Out.{good as whole}
 use Rattle.messages.specs.Slots as Messages
-use Rattle.messages.specs.Slots.{room, boxed}
+use Rattle.messages.specs.Slots.{boxed}
 use Rattle.messages.specs.Rows as Rows
 use Rattle.messages.specs.Rows.Answer.{refused, taken, completed}
 use Rattle.messages.specs.Sound.{passes}

@@ -1,7 +1,7 @@
 -- Any two answers that a call's promise allows are equal, and they are the box's.
 use Prim.Native.Nat.{ℕ, _+_, _-_}
-use mathlib.Core.Path.{_≡_, refl, sym, ap, _∙_}
-use mathlib.Core.Bool.{Bool, true, false}
+use mathlib.Core.Path.{_≡_, sym, _∙_}
+use mathlib.Core.Bool.{Bool}
 use mathlib.Core.List.{List, [], _∷_, _++_}
 use mathlib.Core.Option.{Option, none, some}
 use lib.ListN.{length, drop}
@@ -9,14 +9,14 @@ use borrow.Author.Tests.{eq-eqb}
 use Rattle.octets.specs.Choice.{by-test}
 use Rattle.runs.specs.Run.{Run, octs}
 use Rattle.runs.specs.Run.Event.{silence}
-use Rattle.runs.specs.Run.Order.{trunk, forget}
-use Rattle.runs.specs.Offered.{Answer, answer, spoken, Offered}
+use Rattle.runs.specs.Run.Order.{trunk}
+use Rattle.runs.specs.Offered.{answer, spoken, Offered}
 use Rattle.runs.specs.Offered.Offered.{over, fed, still, forgot}
 use Rattle.frames.specs.declared.Receiver.{Receiver}
 use Rattle.messages.specs.Slots as Messages
 use Rattle.rebuild.specs.declared.Key.{Key}
 use Rattle.rebuild.proofs.Seen.{view-one}
-use Rattle.collector.specs.Calls.{passing, box, written, saidSo, slotsOf, Answered, feeding, Tells, Feeds, stilling, Falls, Stills, Forgets}
+use Rattle.collector.specs.Calls.{passing, box, written, saidSo, slotsOf, Answered, feeding, Feeds, stilling, Stills, Forgets}
 use Rattle.collector.specs.Offering.{End, told, Called}
 use Rattle.collector.specs.Offering.Called.{over as none-left, fed as feeds, still as stills, forgot as forgets}
 use Rattle.collector.specs.declared.Collector.{Collector}

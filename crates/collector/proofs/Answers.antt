@@ -4,7 +4,6 @@ use mathlib.Core.Path.{_≡_, refl, sym, ap, _∙_}
 use mathlib.Core.Bool.{Bool, true, false}
 use mathlib.Core.List.{List, [], _∷_}
 use native.Mathlib.Omega.{arith}
-use lib.Dec.{eqb}
 use lib.ListN.{length, take}
 use borrow.Author.Tests.{eq-eqb, ne-eqb}
 use Rattle.octets.specs.Choice.{pick, both, pick-case}
@@ -17,7 +16,7 @@ use Rattle.frames.specs.Step.{most, lengthOf, soundOf, stepOf, reportsOf, feedF
 use Rattle.frames.proofs.Laws.{step-store}
 use Rattle.frames.proofs.Calls.{feed-refused, silence-refused, frame-fits}
 use Rattle.trunk.specs.Demand.{ruled, stilled, unmoved}
-use Rattle.messages.specs.Rows.{forgetNumber, forgotten}
+use Rattle.messages.specs.Rows.{forgetNumber}
 use Rattle.rebuild.specs.View.{keys, view}
 use Rattle.rebuild.specs.Calls as Rebuild
 use Rattle.rebuild.specs.declared.Slots.{Slots}
@@ -33,7 +32,6 @@ use Rattle.collector.specs.declared.lent.Ate.{Ate}
 use Rattle.collector.specs.declared.Collector.{Collector}
 use Rattle.collector.specs.declared.Fed.{Fed}
 use Rattle.collector.specs.declared.Fell.{Fell}
-use Rattle.collector.specs.declared.Forgot.{Forgot}
 use Rattle.collector.proofs.Actions.{acts-frame}
 
 both-no : (a : Bool) → both a false ≡ false

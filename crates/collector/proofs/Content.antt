@@ -25,7 +25,7 @@ use Rattle.items.specs.declared.Tally.the-variants.{Items}
 use Rattle.messages.specs.Slots.{room, part}
 use Rattle.rebuild.specs.View as View
 use Rattle.collector.specs.Report.{reportOctets, complete, refusal}
-use Rattle.collector.specs.Frame.{Content, segmentFrom, byTags, plainReport, apduContent, npduContent, contentOf}
+use Rattle.collector.specs.Frame.{segmentFrom, byTags, plainReport, apduContent, npduContent, contentOf}
 use Rattle.collector.specs.Frame.Content.{other, refuses, network, message}
 
 -- a frame of type 5, of type 6, of another type

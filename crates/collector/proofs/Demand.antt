@@ -1,26 +1,24 @@
 -- Demand 3 for the whole box, and what document 01 says of segments, at the page's key.
 use Prim.Native.Nat.{ℕ, _+_, _*_, _≤_, _<_}
-use mathlib.Core.Path.{_≡_, refl, ap, _∙_}
+use mathlib.Core.Path.{_≡_, refl, _∙_}
 use mathlib.Core.Bool.{true, false}
 use mathlib.Core.List.{List, [], _∷_, _++_}
 use mathlib.Core.Logic.{_⊎_}
-use mathlib.Core.Option.{Option, some}
+use mathlib.Core.Option.{some}
 use lib.Dec.{eqb}
 use lib.ListN.{length}
 use borrow.Author.Tests.{eq-eqb}
 use Rattle.apdu.specs.Fields.{segmentOf}
 use Rattle.apdu.specs.declared.Pdu.{Pdu}
-use Rattle.runs.specs.Run.{Event, Run, wire, Trace, ended, walk}
+use Rattle.runs.specs.Run.{Event, Run, wire, ended, walk}
 use Rattle.runs.specs.Run.Order.{trunk}
 use Rattle.runs.specs.Offered.{Offered}
-use Rattle.frames.specs.declared.Receiver.{Receiver}
 use Rattle.trunk.specs.Reading.{Out, heldOf, readFrom}
 use Rattle.trunk.specs.Demand.{reading}
 use Rattle.messages.specs.Slots as Messages
 use Rattle.messages.specs.Slots.{room, boxed, slotOf, slotAt, part}
-use Rattle.messages.specs.Rows.{Done, rebuild}
+use Rattle.messages.specs.Rows.{rebuild}
 use Rattle.messages.specs.History.{begun, touches, Rebuilt}
-use Rattle.messages.specs.Sound.{Good}
 use Rattle.messages.proofs.Laws.{repeated, disjoint}
 use Rattle.rebuild.specs.View.{keys}
 use Rattle.rebuild.specs.declared.Key.{Key}
@@ -29,7 +27,7 @@ use Rattle.recordings.specs.Frames.{rules, history, Completes}
 use Rattle.recordings.proofs.Demand.{whole, offerable}
 use Rattle.recordings.proofs.Deeds as Deeds
 use Rattle.collector.specs.Report.{refusal}
-use Rattle.collector.specs.Frame.{Content, segmentFrom, bacnet}
+use Rattle.collector.specs.Frame.{segmentFrom, bacnet}
 use Rattle.collector.specs.Frame.Content.{message}
 use Rattle.collector.specs.Acting.{segmentActs, acting}
 use Rattle.collector.specs.Calls.{slotCount, box, slotsOf}

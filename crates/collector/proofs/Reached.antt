@@ -4,15 +4,14 @@ use mathlib.Core.Path.{_≡_, refl}
 use mathlib.Core.Bool.{true}
 use mathlib.Core.List.{List, [], _∷_}
 use mathlib.Core.Option.{Option, none, some}
-use lib.ListN.{length, length-replicate}
+use lib.ListN.{length-replicate}
 use Rattle.octets.specs.Choice.{pick-case}
 use Rattle.runs.specs.Run.{Run}
 use Rattle.runs.specs.Run.Event.{octet, silence}
-use Rattle.runs.specs.Offered.{Answer, answer, caught, spoken, Offered}
+use Rattle.runs.specs.Offered.{answer, caught, spoken, Offered}
 use Rattle.runs.specs.Offered.Offered.{over, fed, still, forgot}
 use Rattle.frames.specs.declared.Receiver.{Receiver}
 use Rattle.frames.specs.declared.Fed.{Fed}
-use Rattle.frames.specs.declared.Fell.{Fell}
 use Rattle.frames.specs.Step.{soundOf, stepOf, reportsOf, feedFrom, feedOf, silenceOf, stillOf}
 use Rattle.trunk.specs.Reading.{Out}
 use Rattle.trunk.specs.Demand.{Sound, Keeps, outOf}
@@ -25,7 +24,7 @@ use Rattle.recordings.specs.Frames.{rules}
 use Rattle.recordings.proofs.Demand as Recordings
 use Rattle.collector.specs.Report.{damaged}
 use Rattle.collector.specs.Frame.{bacnet}
-use Rattle.collector.specs.Calls.{slotCount, passing, sized, box, freshCollector, slotsOf, Answered}
+use Rattle.collector.specs.Calls.{slotCount, passing, sized, box, freshCollector, Answered}
 use Rattle.collector.specs.Offering.{Passes, End, Called}
 use Rattle.collector.specs.declared.Collector.{Collector}
 use Rattle.collector.proofs.Alike.{called}

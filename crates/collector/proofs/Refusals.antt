@@ -1,11 +1,10 @@
 -- "Nothing changes unless said": a refused piece, and an empty one.
 use Prim.Native.Nat.{ℕ}
-use mathlib.Core.Path.{_≡_, refl, ap, _∙_}
-use mathlib.Core.Bool.{Bool, true, false}
+use mathlib.Core.Path.{_≡_}
 use mathlib.Core.List.{List, []}
 use lib.Dec.{eqb}
 use lib.ListN.{length}
-use Rattle.octets.specs.Choice.{pick, by-test}
+use Rattle.octets.specs.Choice.{by-test}
 use Rattle.frames.specs.Step.{soundOf, feedOf}
 use Rattle.frames.proofs.Calls.{feed-none}
 use Rattle.trunk.specs.Demand.{unmoved}

@@ -1,11 +1,10 @@
 -- What a good frame is, what is reported of it, and the segment that it carries.
 use Prim.Native.Nat.{ℕ, _-_, _*_}
-use mathlib.Core.Bool.{Bool, true, false}
 use mathlib.Core.List.{List}
 use mathlib.Core.Option.{Option, none, some}
 use lib.Dec.{ltb, eqb}
 use lib.ListN.{length, drop}
-use Rattle.octets.specs.Choice.{pick, both, non, given}
+use Rattle.octets.specs.Choice.{pick, given}
 use Rattle.octets.specs.Reading.{oct, refuse}
 use Rattle.npdu.specs.Read.{readNpdu}
 use Rattle.npdu.specs.declared.Reading.{Reading}
@@ -22,7 +21,6 @@ use Rattle.messages.specs.Slots as Messages
 use Rattle.messages.specs.Slots.{room, part}
 use Rattle.messages.specs.Rows as Rows
 use Rattle.messages.specs.Rows.Answer.{refused, taken, completed}
-use Rattle.rebuild.specs.View.{keys}
 use Rattle.rebuild.specs.declared.Key.{Key}
 use Rattle.recordings.specs.Frames.{Frames, rules}
 use Rattle.collector.specs.Report.{otherFrame, damaged, unsegmented, segmentTaken, complete, refusal, networkMessage}

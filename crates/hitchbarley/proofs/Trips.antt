@@ -1,12 +1,12 @@
 -- Demand 2 over the records of headers and services: what a good reading fills in is written as the octets that were read, and what was written reads back.
-use Prim.Native.Nat.{ℕ, _≤_}
+use Prim.Native.Nat.{ℕ}
 use native.Mathlib.Omega.{arith}
-use mathlib.Core.Path.{_≡_, refl, sym, ap, _∙_}
+use mathlib.Core.Path.{_≡_, sym, ap, _∙_}
 use mathlib.Core.List.{List, _++_}
 use lib.Dec.{eqb, leb}
 use lib.ListN.{length, take, drop}
 use lib.Seq.{take-at}
-use borrow.Author.Tests.{eqb-true, leb-true}
+use borrow.Author.Tests.{eqb-true}
 use Rattle.octets.specs.Choice.{pick, pick-so}
 use Rattle.octets.specs.Has.{has-cut}
 use Rattle.octets.specs.Reading.{Octets, oct}

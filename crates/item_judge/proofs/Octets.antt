@@ -1,14 +1,10 @@
 -- The items that records name in a source of octets are laid out as octets.
-use Prim.Native.Nat.{ℕ, zero, suc, _+_, _≤_}
-use native.Mathlib.Omega.{arith}
-use mathlib.Core.List.{List, [], _∷_, _++_}
-use lib.ListN.{length, take, drop, length-take, List·getD-eq-default}
-use lib.Seq.{getD-take, getD-drop}
-use lib.Dec.{ltb, eqb, lit<}
-use borrow.Author.Tests.{ltb-true, ltb-false}
-use Rattle.octets.specs.Choice.{pick-case, by-test}
+use Prim.Native.Nat.{ℕ}
+use mathlib.Core.List.{List, [], _∷_}
+use lib.Dec.{eqb, lit<}
+use Rattle.octets.specs.Choice.{pick-case}
 use Rattle.octets.specs.Reading.{Octets}
-use Rattle.octets.specs.Every.{octets-none, octets-join, octets-part}
+use Rattle.octets.specs.Every.{octets-join, octets-part}
 use Rattle.tags.specs.Layout.{Thing, encode, contentsOf}
 use Rattle.tags.proofs.Octets.{encode-octets}
 use Rattle.items.specs.Records.{Rec, thingOf, thingsOf}

@@ -9,7 +9,6 @@ use Rattle.tags.specs.declared.Tag.{Tag}
 use Rattle.items.specs.Reading.{itemAt, step, closes, endOf}
 use Rattle.items.specs.declared.One.{One}
 use Rattle.items.proofs.Left.{one-item}
-use Rattle.reader.specs.declared.Step.{Step}
 use Rattle.reader.specs.declared.Step.the-variants.{Item, Group, End, Refused}
 use Rattle.reader.specs.Reading.{shown, judged, stepOf}
 

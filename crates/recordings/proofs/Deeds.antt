@@ -1,6 +1,6 @@
 -- A walk through a run does to slots and area what its segments and forget orders do; so each completed message is its key's accepted segments.
 use mathlib.Core.Path.{_≡_, refl, sym, ap, subst, _∙_}
-use mathlib.Core.Bool.{Bool, true, false}
+use mathlib.Core.Bool.{true}
 use mathlib.Core.List.{List, [], _∷_, _++_, append-assoc}
 use mathlib.Core.Option.{Option, none, some}
 use Prim.Native.Nat.{ℕ, suc, _+_}
@@ -10,11 +10,11 @@ use Rattle.runs.specs.Run.{Event, Run, wire, Trace, ended, Ends, acted, walk}
 use Rattle.runs.specs.Run.Order.{trunk, forget}
 use Rattle.messages.specs.Slots.{Keys, KeyLaws, Segment, Slot, Box, boxed}
 use Rattle.messages.specs.Rows as Rows
-use Rattle.messages.specs.Rows.{Answer, rebuild}
+use Rattle.messages.specs.Rows.{rebuild}
 use Rattle.messages.specs.Rows.Answer.{completed}
-use Rattle.messages.specs.History.{Deed, Entry, Log, begun, Rebuilt, Past, past, after, runs, fromStart}
+use Rattle.messages.specs.History.{Deed, Log, begun, Rebuilt, Past, past, after, runs, fromStart}
 use Rattle.messages.specs.History.Deed.{segment, forgetting}
-use Rattle.messages.specs.History.Entry.{said, dropped}
+use Rattle.messages.specs.History.Entry.{said}
 use Rattle.messages.specs.Sound.{Good}
 use Rattle.messages.proofs.History.{completes}
 use Rattle.recordings.specs.Frames.{Frames, actOn, rules, deedOf, deedsAt, deeds, history, boxAt, Completes}

@@ -7,8 +7,8 @@ use Rattle.runs.specs.Run.{Run, Trace, ended, Rules, Ends}
 use Rattle.runs.specs.Run.Order.{trunk, forget}
 use Rattle.messages.specs.Slots.{Keys, Segment, Slot, Box, boxed}
 use Rattle.messages.specs.Rows.{Answer, rebuild, forgotten}
-use Rattle.messages.specs.Rows.Answer.{refused, taken, completed}
-use Rattle.messages.specs.History.{Deed, Entry, Log, fromStart}
+use Rattle.messages.specs.Rows.Answer.{completed}
+use Rattle.messages.specs.History.{Deed, Log, fromStart}
 use Rattle.messages.specs.History.Deed.{segment, forgetting}
 use Rattle.messages.specs.History.Entry.{said, dropped}
 

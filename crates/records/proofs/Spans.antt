@@ -1,28 +1,27 @@
 -- The value of a service that was read stands inside the parameters, so that its place and length fit the record.
-use Prim.Native.Nat.{ℕ, _+_, _≤_, _<_}
+use Prim.Native.Nat.{ℕ, _≤_}
 use native.Mathlib.Omega.{arith}
-use mathlib.Core.Path.{_≡_, refl, sym, ap, subst, _∙_}
+use mathlib.Core.Path.{_≡_, refl, sym, subst}
 use mathlib.Core.List.{List}
 use lib.ListN.{length}
 use Rattle.octets.specs.Reading.{Octets}
 use Rattle.octets.specs.Has.{all-has, Has}
 use Rattle.tags.specs.Layout.{Thing}
-use Rattle.items.specs.Grammar.{encodeAll, Grammar, recordsFrom}
+use Rattle.items.specs.Grammar.{encodeAll, recordsFrom}
 use Rattle.items.specs.Records.{Rec}
 use Rattle.items.specs.Reading.{Out, itemsOf, mostItems}
 use Rattle.items.specs.Reading.Out.{good, bad}
-use Rattle.items.proofs.Exact.{Written, written}
-use Rattle.services.specs.Parts.{last}
+use Rattle.items.proofs.Exact.{written}
 use Rattle.services.specs.Reading.{layoutFor, afterTags, readService}
 use Rattle.services.specs.Reading as reading
-use Rattle.services.specs.Shows.{For, messageOf}
+use Rattle.services.specs.Shows.{messageOf}
 use Rattle.services.specs.declared.Answer.{Answer}
-use Rattle.services.specs.declared.Answer.the-variants.{Good, Refused}
+use Rattle.services.specs.declared.Answer.the-variants.{Good}
 use Rattle.services.specs.declared.Service.{Service}
 use Rattle.services.specs.declared.Service.the-variants.{ReadProperty, ReadPropertyAck, WriteProperty, WhoIs, IAm, Error}
 use Rattle.services.proofs.Things.{never, Here, valued-length, group-read, option-read, last-read}
 use Rattle.services.proofs.Pointed.{target-read}
-use Rattle.services.proofs.Exact.{Accepted, accepted}
+use Rattle.services.proofs.Exact.{accepted}
 use Rattle.records.specs.Service.{serviceRecord, serviceAt, Spanned}
 use Rattle.records.proofs.Services.{service-back}
 

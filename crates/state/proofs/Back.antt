@@ -1,5 +1,5 @@
 -- Where a state's octets stand, they are loaded as that state.
-use Prim.Native.Nat.{ℕ, _+_, _*_, _/_, _%_, _≤_, _<_}
+use Prim.Native.Nat.{ℕ, _+_, _≤_, _<_}
 use native.Mathlib.Omega.{arith}
 use mathlib.Core.Path.{_≡_, refl}
 use mathlib.Core.Bool.{Bool, true, false}
@@ -13,12 +13,10 @@ use Rattle.frames.specs.declared.Phase.the-variants.{Hunting, Preamble, Header,
 use Rattle.rebuild.specs.declared.Slot.{Slot}
 use Rattle.collector.specs.declared.Collector.{Collector}
 use Rattle.records.specs.Flag.{flag}
+use Rattle.records.proofs.Networks.{two-back}
 use Rattle.state.specs.Layout.{phaseOctets, slotOctets, slotsOctets, stateOctets}
 use Rattle.state.specs.Calls.{phaseGood, phaseAt, slotsGood, slotAt, stateGood, stateAt}
 use Rattle.state.proofs.Parts.{Shaped, phase-size}
-
-two-back : (v : ℕ) → v / 256 * 256 + v % 256 ≡ v
-two-back v = omega arith
 
 -- the phase and its count
 pub phase-back : (o : List ℕ) (p : Phase) → Has o 0 (phaseOctets p) → (phaseAt (oct o 0) (oct o 1) (oct o 2) ≡ p) × (phaseGood (oct o 0) (oct o 1) (oct o 2) ≡ true)

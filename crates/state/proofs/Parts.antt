@@ -2,8 +2,8 @@
 use Prim.Native.Nat.{ℕ, _+_}
 use native.Mathlib.Omega.{arith}
 use mathlib.Core.Path.{_≡_, refl, sym, _∙_}
-use mathlib.Core.List.{List, [], _∷_, _++_, map, append-assoc}
-use lib.ListN.{length, getD, length-append, length-map}
+use mathlib.Core.List.{List, [], _∷_, _++_, append-assoc}
+use lib.ListN.{length, getD, length-append}
 use Rattle.octets.specs.Splice.{splice}
 use Rattle.frames.specs.declared.Phase.{Phase}
 use Rattle.frames.specs.declared.Phase.the-variants.{Hunting, Preamble, Header, Data}
@@ -70,7 +70,3 @@ state-laid c area {l₁} {l₂} {l₃} e₁ e₂ e₃ h j k m =
     let s : l₃ ≡ splice area 0 (p ++ (q ++ r)) = three-laid area 0 9 510 p q r e₁ e₂ e₃ (omega arith) (omega arith) (omega arith) in
     let n : length area ≡ length (p ++ (q ++ r)) = rw (three-size p q r, h, j, k) m in
     laid-whole area (p ++ (q ++ r)) l₃ n s ∙ sym (state-parts c)
-
--- an array of structs has its length by way of a map
-pub length-of-map : (X Y : Type 0) (f : X → Y) (l : List X) (n : ℕ) → length (map f l) ≡ n → length l ≡ n
-length-of-map X Y f l n e = sym (length-map l f) ∙ e

@@ -15,7 +15,7 @@ use Rattle.collector.specs.Lent.{over}
 use Rattle.collector.specs.declared.Collector.{Collector}
 use Rattle.state.specs.Layout.{stateSize, linkOctets, slotsOctets, stateOctets}
 use Rattle.state.specs.Calls.{loadOf, Loads, Lays}
-use Rattle.state.proofs.Parts.{Shaped, phase-size, link-size, slots-size, three-size, state-parts}
+use Rattle.state.proofs.Parts.{phase-size, link-size, slots-size, three-size, state-parts}
 use Rattle.state.proofs.Exact.{shaped-loads, loads-only, accepted}
 
 pub record Holds (o : List ℕ) (c : Collector) : Type 0 where

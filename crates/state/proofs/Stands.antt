@@ -5,25 +5,19 @@ use native.Mathlib.Nat.{add-assoc}
 use mathlib.Core.Path.{_≡_, refl, sym, _∙_}
 use mathlib.Core.Bool.{Bool, true, false}
 use mathlib.Core.List.{List, [], _∷_, _++_}
-use lib.Dec.{eqb, leb, ltb, lit<, lit≤}
-use lib.ListN.{length, getD, take, drop, length-take, length-drop, length-append, List·getD-eq-default}
-use lib.Seq.{getD-take, getD-drop, length-take-le}
-use borrow.Author.Tests.{ne-eqb, lt-leb, leb-true, eqb-true, ltb-true, ltb-false}
-use Rattle.octets.specs.Choice.{both, by-test, pick-so}
+use lib.Dec.{eqb, leb, lit≤}
+use lib.ListN.{length, take, drop, length-drop}
+use lib.Seq.{length-take-le}
+use borrow.Author.Tests.{ne-eqb, lt-leb, leb-true, eqb-true}
+use Rattle.octets.specs.Choice.{both, pick-so}
 use Rattle.octets.specs.Reading.{oct, Octets}
+use Rattle.octets.specs.Every.{octets-part}
 use Rattle.octets.specs.Has.{Has, has-append, has-take, has-all}
 use Rattle.collector.specs.declared.Collector.{Collector}
 use Rattle.records.specs.Flag.{flag}
 use Rattle.state.specs.Layout.{phaseOctets, linkOctets, slotOctets, slotsOctets, stateOctets, PhaseFits, SlotFits, Fits}
 use Rattle.state.specs.Calls.{phaseGood, phaseAt, slotsGood, slotAt, stateGood, stateAt}
 use Rattle.state.proofs.Parts.{Shaped, fits-shaped, link-size, slots-size, three-size, state-parts}
-
--- what is cut out of octets is octets
-pub octets-cut : (o : List ℕ) → Octets o → (n at : ℕ) → Octets (take n (drop at o))
-octets-cut o os n at i =
-    by-test (ltb i n)
-    (λ e. let z : getD (take n (drop at o)) i 0 ≡ getD o (at + i) 0 = getD-take n (drop at o) i 0 (ltb-true i n e) ∙ getD-drop at o i 0 in rw z (os (at + i)))
-    (λ e. let l : length (take n (drop at o)) ≤ i = rw length-take (omega (arith, ltb-false i n e)) in rw (List·getD-eq-default (take n (drop at o)) 0 l) (lit< tt))
 
 not-false : {P : Type 0} → false ≡ true → P
 not-false e = let z : _≡_ {A = ℕ} 0 1 = cc in let v : ⊥ = omega arith in elim v [ ]
@@ -115,10 +109,10 @@ module _ (o : List ℕ) (os : Octets o) (size : length o ≡ 546) (good : stateG
       record {
         phase = phase-stands (oct o 0) (oct o 1) (oct o 2) (os 1) (os 2) phased .1;
         head = cut-size 5 3 (lit≤ tt);
-        headOctets = octets-cut o os 5 3;
+        headOctets = octets-part o 3 5 os;
         first = os 8;
         store = cut-size 501 9 (lit≤ tt);
-        storeOctets = octets-cut o os 501 9;
+        storeOctets = octets-part o 9 501 os;
         four = refl;
         slots = (slot-fits o os 510, (slot-fits o os 519, (slot-fits o os 528, (slot-fits o os 537, tt))));
       }

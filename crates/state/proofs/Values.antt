@@ -1,5 +1,5 @@
 -- What the types of a state say of their values: every value fits its octets.
-use Prim.Native.Nat.{ℕ, zero, suc, _<_}
+use Prim.Native.Nat.{ℕ, zero, suc}
 use mathlib.Core.Path.{sym, _∙_}
 use mathlib.Core.List.{List, [], _∷_, map}
 use lib.Dec.{lit<}

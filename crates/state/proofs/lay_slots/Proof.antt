@@ -2,7 +2,8 @@ use Rattle.octets.specs.Rules.{tests}
 use mathlib.Core.Path.{_≡_}
 use lib.ListN.{length}
 use Rattle.state.specs.Layout.{slotsOctets}
-use Rattle.state.proofs.Parts.{slots-size, length-of-map}
+use Rattle.state.proofs.Parts.{slots-size}
+use Rattle.rebuild.proofs.Seen.{length-of-map}
 use borrow.Author.Needs.{needs}
 use Rattle.state.proofs.lay_slots.Statement.{statement}
 use Rattle.state.proofs.lay_slots.Tie as tie

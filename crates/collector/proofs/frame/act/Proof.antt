@@ -3,7 +3,7 @@ use Rattle.collector.proofs.Content.{content-5, content-6, content-othe
 use Rattle.collector.specs.Acting.{acting}
 use Rattle.collector.specs.Frame.{Content}
 use Rattle.rebuild.specs.View.{view}
-use mathlib.Core.Path.{_≡_, refl, sym, ap, _∙_}
+use mathlib.Core.Path.{refl, ap}
 use denote.Ref.{now}
 use borrow.Author.Needs.{needs}
 use Rattle.collector.proofs.frame.act.Statement.{statement}

@@ -5,7 +5,7 @@ use Rattle.collector.specs.Frame.{Content}
 use Rattle.rebuild.specs.View.{view}
 use Rattle.apdu.specs.Laws.{params-within}
 use Rattle.apdu.specs.declared.Segment.{Segment}
-use mathlib.Core.Path.{_≡_, refl, sym, ap, _∙_}
+use mathlib.Core.Path.{refl, sym, ap, _∙_}
 use denote.Ref.{now}
 use borrow.Author.Needs.{needs}
 use Rattle.collector.proofs.frame.act_apdu.Statement.{statement}

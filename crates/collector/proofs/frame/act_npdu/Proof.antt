@@ -4,7 +4,7 @@ use Rattle.collector.specs.Acting.{acting}
 use Rattle.collector.specs.Frame.{Content, npduContent}
 use Rattle.rebuild.specs.View.{view}
 use Rattle.npdu.proofs.Outcome.{next-within}
-use mathlib.Core.Path.{_≡_, refl, sym, ap, _∙_}
+use mathlib.Core.Path.{refl, sym, ap, _∙_}
 use denote.Ref.{now}
 use borrow.Author.Needs.{needs}
 use Rattle.collector.proofs.frame.act_npdu.Statement.{statement}

@@ -1,5 +1,5 @@
 use Rattle.collector.proofs.Content.{tags-good, tags-bad}
-use mathlib.Core.Path.{_≡_, sym, _∙_}
+use mathlib.Core.Path.{sym, _∙_}
 use borrow.Author.Needs.{needs}
 use Rattle.collector.proofs.frame.put_by_tags.Statement.{statement}
 use Rattle.collector.proofs.frame.put_by_tags.Tie as tie

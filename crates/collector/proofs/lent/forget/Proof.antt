@@ -1,7 +1,7 @@
 use Rattle.collector.specs.Lent.{over}
 use Rattle.collector.proofs.Answers.{forgets-slots, forgets-left, forgets-on}
 use borrow.Author.Tests.{not-true, not-false}
-use mathlib.Core.Path.{_≡_, sym, _∙_}
+use mathlib.Core.Path.{sym, _∙_}
 use borrow.Author.Needs.{needs}
 use Rattle.collector.proofs.lent.forget.Statement.{statement}
 use Rattle.collector.proofs.lent.forget.Tie as tie

@@ -1,6 +1,5 @@
-use mathlib.Core.Path.{_≡_, refl}
+use mathlib.Core.Path.{refl}
 use native.Mathlib.Omega.{arith}
-use lib.ListN.{length, take, drop}
 use denote.Ref.{now}
 use Rattle.collector.specs.Lent.{over}
 use Rattle.state.proofs.Places.{Holds, store-over, link-over, slots-over}

@@ -1,6 +1,7 @@
 use mathlib.Core.Path.{_≡_}
 use lib.ListN.{length}
-use Rattle.state.proofs.Parts.{slots-laid, length-of-map}
+use Rattle.state.proofs.Parts.{slots-laid}
+use Rattle.rebuild.proofs.Seen.{length-of-map}
 use borrow.Author.Needs.{needs}
 use Rattle.state.proofs.saving.put_slots.Statement.{statement}
 use Rattle.state.proofs.saving.put_slots.Tie as tie

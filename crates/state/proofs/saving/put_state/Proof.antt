@@ -1,5 +1,6 @@
 use denote.Ref.{now}
-use Rattle.state.proofs.Parts.{link-size, slots-size, state-laid, length-of-map}
+use Rattle.state.proofs.Parts.{link-size, slots-size, state-laid}
+use Rattle.rebuild.proofs.Seen.{length-of-map}
 use native.Mathlib.Omega.{arith}
 use mathlib.Core.Path.{_≡_}
 use lib.ListN.{length}
