@@ -137,7 +137,7 @@ impl Trial {
 }
 
 // The segment's frame; how many octets it has.
-fn framed(p: Part, octets: &[u8], out: &mut [u8]) -> usize {
+pub fn framed(p: Part, octets: &[u8], out: &mut [u8]) -> usize {
     let mut data = [0u8; 501];
     let first = if p.more { 0x3C } else { 0x38 };
     let a = trials::lay(

@@ -1,24 +1,55 @@
-// Gives each refusal number of the readers and the writers, by octets that the page or its rulings name, and says for each group
-// whether every case came out as it should.
-mod headers;
-mod served;
+// Asks the readers and the writers what a line of the text says, octets in hexadecimal, and answers with the refusal number that
+// each gives. What a line asks: reading.rt, writing.rt and serving.rt. A line that asks nothing is a heading.
+mod reading;
+mod serving;
 mod tagged;
 mod writing;
 
+use trials::lines;
+
+// What a line asks by its second word, of a reader or of a writer.
+fn answer(verb: u8, what: u8, o: &[u8]) {
+    match verb {
+        b'r' => reading::read(what, o),
+        b'w' => writing::write(what, o),
+        _ => {}
+    }
+}
+
+// The line, and what it gives.
+fn line(s: &[u8]) {
+    let mut room = [0u8; 64];
+    let what = lines::next_word(s, 0);
+    let hex = lines::next_word(s, what);
+    let n = lines::octets_of(show::part(s, hex, s.len()), &mut room);
+    show::text(s);
+    answer(lines::at(s, 0), lines::at(s, what), show::part(&room, 0, n));
+    show::text(b"\n");
+}
+
+// The line at a place; the place of the next.
+fn one(s: &[u8], from: usize) -> usize {
+    let end = lines::place_of(s, from, b'\n');
+    line(show::part(s, from, end));
+    lines::after(s, end)
+}
+
+fn all(s: &[u8]) {
+    let mut at = 0;
+    let mut left = s.len();
+    while 0 < left {
+        if at < s.len() {
+            at = one(s, at);
+        }
+        left -= 1;
+    }
+}
+
 fn main() {
-    headers::network().tell(b"network header, 10 to 14");
-    headers::apdu().tell(b"APDU header, 20 to 24");
-    tagged::forms().tell(b"tag numbers and forms, 30 to 32");
-    tagged::contents().tell(b"lengths and contents, 33 and 34");
-    tagged::groups().tell(b"groups, 35 and 36");
-    tagged::open().tell(b"16 and 17 open, 37");
+    let mut text = io::large_buffer();
+    let n = io::read_full(libc::STDIN_FILENO, &mut text);
+    all(&text[..n]);
     tagged::many().tell(b"2,048 and 2,049 items, 38");
-    tagged::long().tell(b"16,384 and 16,385 parameter octets, 39");
+    tagged::long().tell(b"16,384 and 16,385 parameter octets, read and written, 39");
     tagged::listing().tell(b"listing, 61");
-    served::properties().tell(b"ReadProperty and WriteProperty, 40 to 42");
-    served::others().tell(b"Who-Is, I-Am and Error, 40 to 42");
-    served::unknown().tell(b"no service here, 43");
-    writing::networks().tell(b"writing network headers, 12 to 14 and 61");
-    writing::headers().tell(b"writing APDU headers, 22, 23 and 61");
-    writing::records().tell(b"writing items, 62 and 61");
 }

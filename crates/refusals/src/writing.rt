@@ -1,143 +1,90 @@
-// The refusals of the writers: the first field in octet order, then 61; for items 62 first.
+// What the writers of headers and items answer. A line's first octet is the output area's length; the fields follow in the order
+// of their octets.
+use crate::reading::refused;
+use crate::serving;
 use apdu::Pdu;
 use apdu::RequestPdu;
 use apdu::Segment;
 use npdu::Npdu;
 use octets::Written;
-use trials::Tally;
+use trials::lines::at;
 
-// The refusal, or 1,000 and the octets written.
-fn number(w: Written) -> u32 {
+// The refusal, or the octets written.
+pub fn written(w: Written) {
     match w {
-        Written::Wrote(n) => 1000 + (n % 65536) as u32,
-        Written::Refused(n) => n as u32,
+        Written::Wrote(n) => {
+            show::text(b": octets, ");
+            show::number((n % 65536) as u32);
+        }
+        Written::Refused(n) => refused(n),
     }
 }
 
-// A network header with both parts.
-fn head(priority: u8, dnet: u16, dlen: u8, snet: u16, slen: u8) -> Npdu {
-    Npdu {
+// The front of an area, as long as the line says.
+pub fn room(out: &mut [u8], n: u8) -> &mut [u8] {
+    let k = n as usize;
+    if k <= out.len() {
+        return &mut out[..k];
+    }
+    out
+}
+
+// Priority, DNET, DLEN, SNET, SLEN: a header with both parts.
+fn network(o: &[u8]) {
+    let mut out = [0u8; 64];
+    let h = Npdu {
         message: false,
         dest: true,
         source: true,
         reply: false,
-        priority,
-        dnet,
-        dlen,
+        priority: at(o, 1),
+        dnet: octets::pair(at(o, 2), at(o, 3)),
+        dlen: at(o, 4),
         dadr: [9; 7],
-        snet,
-        slen,
+        snet: octets::pair(at(o, 5), at(o, 6)),
+        slen: at(o, 7),
         sadr: [9; 7],
         hops: 255,
         kind: 0,
         vendor: 0,
-    }
+    };
+    let area = room(&mut out, at(o, 0));
+    written(npdu::write(h, area));
 }
 
-fn network(h: Npdu) -> u32 {
-    let mut out = [0u8; 24];
-    number(npdu::write(h, &mut out))
-}
-
-// Two octets, two parts of three and an address each, a hop count.
-pub fn networks() -> Tally {
-    let mut small = [0u8; 9];
-    Tally::none()
-        .see(network(head(3, 65535, 0, 1, 1)), 1010)
-        .see(network(head(4, 0, 0, 1, 1)), 12)
-        .see(network(head(3, 0, 8, 1, 1)), 14)
-        .see(network(head(3, 1, 8, 0, 1)), 13)
-        .see(network(head(3, 1, 7, 0, 0)), 14)
-        .see(network(head(3, 1, 7, 65535, 7)), 14)
-        .see(network(head(3, 1, 7, 65534, 0)), 13)
-        .see(network(head(3, 1, 7, 65534, 8)), 13)
-        .see(network(head(3, 1, 7, 65534, 7)), 1023)
-        .see(number(npdu::write(head(3, 65535, 0, 1, 1), &mut small)), 61)
-}
-
-// A confirmed request with this size code, segmented or not.
-fn request(size: u8, seg: bool, mor: bool, window: u8) -> Pdu {
-    Pdu::Request(RequestPdu {
+// SEG, MOR, size code, window: a confirmed request.
+fn request(o: &[u8]) {
+    let mut out = [0u8; 64];
+    let p = Pdu::Request(RequestPdu {
         segment: Segment {
-            seg,
-            mor,
+            seg: at(o, 1) == 1,
+            mor: at(o, 2) == 1,
             number: 0,
-            window,
+            window: at(o, 4),
         },
         sa: true,
-        size,
+        size: at(o, 3),
         invoke: 1,
         choice: 12,
-    })
+    });
+    let area = room(&mut out, at(o, 0));
+    written(apdu_writer::write(p, area));
 }
 
-fn header(p: Pdu) -> u32 {
-    let mut out = [0u8; 6];
-    number(apdu_writer::write(p, &mut out))
+// Records, over the source 00 05.
+fn records(o: &[u8]) {
+    let mut out = [0u8; 64];
+    let area = room(&mut out, at(o, 0));
+    let records = show::part(o, 1, o.len());
+    written(item_writer::write(records, b"\x00\x05", area));
 }
 
-pub fn headers() -> Tally {
-    let mut small = [0u8; 5];
-    Tally::none()
-        .see(header(request(5, false, false, 0)), 1004)
-        .see(header(request(5, true, true, 127)), 1006)
-        .see(header(request(6, false, true, 0)), 22)
-        .see(header(request(6, true, true, 0)), 23)
-        .see(header(request(16, true, true, 1)), 23)
-        .see(header(request(5, true, true, 0)), 23)
-        .see(header(request(5, true, true, 128)), 23)
-        .see(
-            number(apdu_writer::write(request(5, true, false, 1), &mut small)),
-            61,
-        )
-}
-
-// Records over the source 00 05.
-fn items(records: &[u8]) -> u32 {
-    let mut out = [0u8; 8];
-    number(item_writer::write(records, b"\x00\x05", &mut out))
-}
-
-// An unsigned number: record area, place, depth, shortest form; a group that is not closed; the area's room last.
-pub fn records() -> Tally {
-    let mut small = [0u8; 1];
-    Tally::none()
-        .see(items(b""), 1000)
-        .see(
-            items(b"\x00\x02\x00\x00\x00\x00\x00\x01\x00\x00\x00\x01"),
-            1002,
-        )
-        .see(items(b"\x00\x02\x00\x00\x00\x00\x00\x01\x00\x00\x00"), 62)
-        .see(
-            items(b"\x00\x02\x00\x00\x00\x00\x00\x02\x00\x00\x00\x01"),
-            62,
-        )
-        .see(
-            items(b"\x00\x02\x01\x00\x00\x00\x00\x01\x00\x00\x00\x01"),
-            62,
-        )
-        .see(
-            items(b"\x00\x02\x00\x00\x00\x00\x00\x00\x00\x00\x00\x02"),
-            62,
-        )
-        .see(
-            items(b"\x02\x03\x00\x00\x00\x00\x00\x00\x00\x00\x00\x00"),
-            62,
-        )
-        .see(
-            number(item_writer::write(
-                b"\x00\x02\x00\x00\x00\x00\x00\x01\x00\x00\x00\x01",
-                b"\x00\x05",
-                &mut small,
-            )),
-            61,
-        )
-        .see(
-            number(item_writer::write(
-                b"\x00\x02\x01\x00\x00\x00\x00\x01\x00\x00\x00\x01",
-                b"\x00\x05",
-                &mut small,
-            )),
-            62,
-        )
+// network, apdu, items, or a service
+pub fn write(what: u8, o: &[u8]) {
+    match what {
+        b'n' => network(o),
+        b'a' => request(o),
+        b'i' => records(o),
+        _ => serving::write(what, o),
+    }
 }

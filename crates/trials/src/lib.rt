@@ -1,5 +1,6 @@
-// What the programs share that try the library: octets laid out, frames made, cases counted.
+// What the programs share that try the library: octets laid out, frames made, cases counted, lines of text read.
 mod cases;
+pub mod lines;
 
 pub use cases::Tally;
 

@@ -1,7 +1,8 @@
 // Runs the worked messages of source documents 000, 003 and 004, a line each: name, tag, layer, octets in hexadecimal.
 // Each is read at its layer, and goes through a fresh collector in a frame of its own.
-mod lines;
 mod readings;
+
+use trials::lines;
 
 // A line ends at a line feed or at the text's end.
 fn line_end(s: &[u8], from: usize) -> usize {

@@ -1,10 +1,10 @@
 // What the library answers to a message, in words.
-use crate::lines;
 use apdu::Answer;
 use apdu::Pdu;
 use apdu::fields;
 use collector::Collector;
 use items::Tally;
+use trials::lines;
 
 fn refused(n: u8) {
     show::text(b"refused ");

@@ -1,8 +1,8 @@
 use borrow.Author.Needs.{needs}
 use lib.ListN.{length}
 use Prim.Native.Nat.{_-_}
-use Rattle.worked.proofs.lines.place_of.Statement.{statement}
-use Rattle.worked.proofs.lines.place_of.Tie as tie
+use Rattle.trials.proofs.lines.place_of.Statement.{statement}
+use Rattle.trials.proofs.lines.place_of.Tie as tie
 
 abbrev Inv-loop : tie.InvT-loop
 Inv-loop s from x i₀ i = Unit {0}

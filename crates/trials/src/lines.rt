@@ -12,6 +12,11 @@ pub fn place_of(s: &[u8], from: usize, x: u8) -> usize {
     s.len()
 }
 
+// The octet at a place, 0 where there is none.
+pub fn at(s: &[u8], i: usize) -> u8 {
+    if i < s.len() { s[i] } else { 0 }
+}
+
 // The next place; the end at the end.
 pub fn after(s: &[u8], at: usize) -> usize {
     if at < s.len() {
@@ -38,7 +43,7 @@ fn lay_octet(s: &[u8], at: usize, out: &mut [u8], to: usize) -> usize {
     if at < s.len() {
         if at + 1 < s.len() {
             let x = digit(s[at]) % 16 * 16 + digit(s[at + 1]) % 16;
-            return trials::lay(out, to, &[x]);
+            return crate::lay(out, to, &[x]);
         }
     }
     to

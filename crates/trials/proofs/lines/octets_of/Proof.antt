@@ -1,8 +1,8 @@
 use mathlib.Core.Path.{_≡_}
 use lib.ListN.{length}
 use borrow.Author.Needs.{needs}
-use Rattle.worked.proofs.lines.octets_of.Statement.{statement}
-use Rattle.worked.proofs.lines.octets_of.Tie as tie
+use Rattle.trials.proofs.lines.octets_of.Statement.{statement}
+use Rattle.trials.proofs.lines.octets_of.Tie as tie
 
 abbrev Inv-loop : tie.InvT-loop
 Inv-loop s out₀ n₀ at₀ left₀ out n at left = length out ≡ length out₀
