@@ -5,3 +5,4 @@ pub mod Items
 pub mod Services
 pub mod Trips
 pub mod One
+pub mod Demand

@@ -3,3 +3,4 @@ pub mod Headers
 pub mod Items
 pub mod Services
 pub mod Trunk
+pub mod Offering
