@@ -1,8 +1,6 @@
-// Frames: lengths, cuts and silences.
-use crate::trial::Trial;
-use crate::trial::Want;
-use crate::trial::damaged;
-use trials::Tally;
+// What a collector answers to octets and to a silence.
+use collector::Collector;
+use trials::lines::at;
 
 // A ReadProperty ack of 29 octets (004).
 const ACK: [u8; 29] = [
@@ -37,69 +35,60 @@ const ACK: [u8; 29] = [
     0xC6,
 ];
 
-fn frame_of(total: u32) -> Want {
-    Want {
-        kind: 1,
-        number: 0,
-        slot: 0,
-        total,
+// A refusal; or the report, where there is one.
+pub fn said(refused: u8, reported: bool, report: &[u8]) {
+    if 0 < refused {
+        show::text(b"refused ");
+        show::number(refused as u32);
+        return;
     }
+    if reported {
+        show::row(report);
+        return;
+    }
+    show::text(b"quiet");
 }
 
-// The ack's APDU is 17 octets long.
-fn ack() -> Want {
-    Want {
-        kind: 3,
-        number: 0,
-        slot: 0,
-        total: 17,
-    }
+// octets: the octets eaten, and the report.
+pub fn fed(c: Collector, piece: &[u8], area: &mut [u8; 65536]) -> Collector {
+    let mut report = [0u8; 16];
+    let f = c.feed(piece, &mut report, area);
+    show::text(b": ");
+    show::number((f.eaten % 65536) as u32);
+    show::text(b", ");
+    said(f.refused, f.reported, &report);
+    f.state
 }
 
-// 501 data octets are a frame; 502 are damage at the header check octet.
-pub fn lengths(area: &mut [u8; 65536]) -> Tally {
+// silence
+pub fn fell(c: Collector) -> Collector {
+    let mut report = [0u8; 16];
+    let f = c.silence(&mut report);
+    show::text(b": ");
+    said(f.refused, f.reported, &report);
+    f.state
+}
+
+// cut: the ack up to a place, and the rest of it.
+pub fn cut(c: Collector, n: u8, area: &mut [u8; 65536]) -> Collector {
+    let frame = ACK;
+    let k = n as usize;
+    let d = fed(c, show::part(&frame, 0, k), area);
+    fed(d, show::part(&frame, k, 29), area)
+}
+
+// broken: the ack up to a place, a silence, and the whole of it.
+pub fn broken(c: Collector, n: u8, area: &mut [u8; 65536]) -> Collector {
+    let frame = ACK;
+    let d = fed(c, show::part(&frame, 0, n as usize), area);
+    fed(fell(d), &frame, area)
+}
+
+// long: a frame of type 1 with so many data octets, all 0.
+pub fn long(c: Collector, o: &[u8], area: &mut [u8; 65536]) -> Collector {
     let data = [0u8; 502];
     let mut frame = [0u8; 512];
-    let n = trials::frame(1, 2, 1, show::part(&data, 0, 501), &mut frame);
-    let t = Trial::fresh().gives(show::part(&frame, 0, n), 511, frame_of(501), area);
-    let m = trials::frame(1, 2, 1, &data, &mut frame);
-    t.gives(show::part(&frame, 0, m), 8, damaged(2), area).tally
-}
-
-// The front of a frame is quiet, and the rest gives the report: five cases.
-fn cut(t: Trial, at: usize, area: &mut [u8; 65536]) -> Trial {
-    let frame = ACK;
-    let rest = show::part(&frame, at, 29);
-    t.quiet(show::part(&frame, 0, at), area)
-        .gives(rest, rest.len(), ack(), area)
-}
-
-// From an empty front to all but the last octet.
-pub fn cuts(area: &mut [u8; 65536]) -> Tally {
-    let mut t = Trial::fresh();
-    let mut at: usize = 0;
-    while at < 29 {
-        t = cut(t, at, area);
-        at += 1;
-    }
-    t.tally
-}
-
-// After two octets or more a silence is damage, and what follows is read: six cases.
-fn silenced(t: Trial, at: usize, area: &mut [u8; 65536]) -> Trial {
-    let frame = ACK;
-    let want = if at < 2 { 0 } else { 4 };
-    t.quiet(show::part(&frame, 0, at), area)
-        .silence(want)
-        .gives(&frame, 29, ack(), area)
-}
-
-pub fn silences(area: &mut [u8; 65536]) -> Tally {
-    let mut t = Trial::fresh();
-    let mut at: usize = 0;
-    while at < 29 {
-        t = silenced(t, at, area);
-        at += 1;
-    }
-    t.silence(0).tally
+    let n = octets::pair(at(o, 0), at(o, 1)) as usize;
+    let m = trials::frame(1, 2, 1, show::part(&data, 0, n), &mut frame);
+    fed(c, show::part(&frame, 0, m), area)
 }

@@ -1,29 +1,11 @@
 // A script: what a collector is given, a line each, and what it answers. A heading begins a group, with a fresh collector.
+use crate::link;
+use crate::states;
 use crate::trial::Part;
 use crate::trial::framed;
 use collector::Collector;
 use trials::lines;
 use trials::lines::at;
-
-// The report, where there is one.
-fn said(reported: bool, report: [u8; 16]) {
-    if reported {
-        show::row(&report);
-        return;
-    }
-    show::text(b"quiet");
-}
-
-// octets: a piece; the octets eaten, and the report.
-fn fed(c: Collector, piece: &[u8], area: &mut [u8; 65536]) -> Collector {
-    let mut report = [0u8; 16];
-    let f = c.feed(piece, &mut report, area);
-    show::text(b": ");
-    show::number((f.eaten % 65536) as u32);
-    show::text(b", ");
-    said(f.reported, report);
-    f.state
-}
 
 // part: a segment of a complex ack to station 1, in a frame of its own: source, invoke, number, MOR, choice, parameters.
 fn part(c: Collector, o: &[u8], area: &mut [u8; 65536]) -> Collector {
@@ -36,15 +18,7 @@ fn part(c: Collector, o: &[u8], area: &mut [u8; 65536]) -> Collector {
     };
     let mut frame = [0u8; 511];
     let n = framed(p, show::part(o, 5, o.len()), &mut frame);
-    fed(c, show::part(&frame, 0, n), area)
-}
-
-fn fell(c: Collector) -> Collector {
-    let mut report = [0u8; 16];
-    let f = c.silence(&mut report);
-    show::text(b": ");
-    said(f.reported, report);
-    f.state
+    link::fed(c, show::part(&frame, 0, n), area)
 }
 
 // forget: a slot.
@@ -56,23 +30,34 @@ fn forgot(c: Collector, s: u8) -> Collector {
 }
 
 // message: so many octets of slot 0.
-fn message(n: u8, area: &[u8; 65536]) {
+fn message(c: Collector, n: u8, area: &[u8; 65536]) -> Collector {
     show::text(b": ");
     show::row(show::part(area, 0, n as usize));
+    c
 }
 
-// By the line's first letter.
+// What a line gives the collector: octets, a silence, a segment, a frame cut or broken off, a long one.
+fn given(c: Collector, what: u8, o: &[u8], area: &mut [u8; 65536]) -> Collector {
+    match what {
+        b'o' => link::fed(c, o, area),
+        b's' => link::fell(c),
+        b'p' => part(c, o, area),
+        b'c' => link::cut(c, at(o, 0), area),
+        b'b' => link::broken(c, at(o, 0), area),
+        _ => link::long(c, o, area),
+    }
+}
+
+// What else a line can say: another state, areas of other sizes, what is asked of the slots. A heading begins anew.
 fn told(c: Collector, what: u8, o: &[u8], area: &mut [u8; 65536]) -> Collector {
     match what {
-        b'o' => fed(c, o, area),
-        b'p' => part(c, o, area),
-        b's' => fell(c),
         b'f' => forgot(c, at(o, 0)),
-        b'm' => {
-            message(at(o, 0), area);
-            c
-        }
-        _ => Collector::fresh(),
+        b'm' => message(c, at(o, 0), area),
+        b'r' => states::receiving(c, o),
+        b'h' => states::holding(c, o),
+        b'a' => states::areas(c, o, area),
+        b'#' => Collector::fresh(),
+        _ => given(c, what, o, area),
     }
 }
 

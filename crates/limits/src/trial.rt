@@ -52,16 +52,6 @@ pub fn refused(number: u8) -> Want {
     }
 }
 
-// Damage has kind 2.
-pub fn damaged(number: u8) -> Want {
-    Want {
-        kind: 2,
-        number,
-        slot: 0,
-        total: 0,
-    }
-}
-
 // A report against what it should say: kind and number, slot, length.
 fn compared(t: Tally, report: [u8; 16], want: Want) -> Tally {
     let kind = word(report[0]) * 100 + word(report[1]);
@@ -71,13 +61,8 @@ fn compared(t: Tally, report: [u8; 16], want: Want) -> Tally {
         .see(length, want.total)
 }
 
-pub fn bit(b: bool) -> u32 {
+fn bit(b: bool) -> u32 {
     if b { 1 } else { 0 }
-}
-
-// A report's number, 0 where there is none.
-fn said(reported: bool, number: u8) -> u32 {
-    if reported { word(number) } else { 0 }
 }
 
 impl Trial {
@@ -90,7 +75,7 @@ impl Trial {
     }
 
     // A piece that must end in a report, and be eaten so far: four cases.
-    pub fn gives(self, piece: &[u8], eaten: usize, want: Want, area: &mut [u8; 65536]) -> Trial {
+    fn gives(self, piece: &[u8], eaten: usize, want: Want, area: &mut [u8; 65536]) -> Trial {
         let mut report = [0u8; 16];
         let f = self.state.feed(piece, &mut report, area);
         let state = f.state;
@@ -99,25 +84,6 @@ impl Trial {
             state,
             tally: compared(t, report, want),
         }
-    }
-
-    // A piece that must be eaten without a report: one case.
-    pub fn quiet(self, piece: &[u8], area: &mut [u8; 65536]) -> Trial {
-        let mut report = [0u8; 16];
-        let f = self.state.feed(piece, &mut report, area);
-        let state = f.state;
-        let t = self.tally
-            .see(bit(!f.reported && f.eaten == piece.len()), 1);
-        Trial { state, tally: t }
-    }
-
-    // A silence that must give this damage, or 0 for none: one case.
-    pub fn silence(self, want: u32) -> Trial {
-        let mut report = [0u8; 16];
-        let f = self.state.silence(&mut report);
-        let state = f.state;
-        let t = self.tally.see(said(f.reported, report[1]), want);
-        Trial { state, tally: t }
     }
 
     // A forget order with this answer: one case.

@@ -1,6 +1,5 @@
 // What the service writer answers. A line's first octet is the output area's length; the fields follow in the order of their items, and
 // last the value's octets.
-use crate::writing::room;
 use crate::writing::written;
 use services::Fault;
 use services::IAm;
@@ -99,6 +98,6 @@ fn value_at(what: u8) -> usize {
 pub fn write(what: u8, o: &[u8]) {
     let mut out = [0u8; 64];
     let value = show::part(o, value_at(what), o.len());
-    let area = room(&mut out, at(o, 0));
+    let area = trials::front(&mut out, at(o, 0) as usize);
     written(service_writer::write(service(what, o), value, area));
 }

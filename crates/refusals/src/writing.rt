@@ -20,15 +20,6 @@ pub fn written(w: Written) {
     }
 }
 
-// The front of an area, as long as the line says.
-pub fn room(out: &mut [u8], n: u8) -> &mut [u8] {
-    let k = n as usize;
-    if k <= out.len() {
-        return &mut out[..k];
-    }
-    out
-}
-
 // Priority, DNET, DLEN, SNET, SLEN: a header with both parts.
 fn network(o: &[u8]) {
     let mut out = [0u8; 64];
@@ -48,7 +39,7 @@ fn network(o: &[u8]) {
         kind: 0,
         vendor: 0,
     };
-    let area = room(&mut out, at(o, 0));
+    let area = trials::front(&mut out, at(o, 0) as usize);
     written(npdu::write(h, area));
 }
 
@@ -67,14 +58,14 @@ fn request(o: &[u8]) {
         invoke: 1,
         choice: 12,
     });
-    let area = room(&mut out, at(o, 0));
+    let area = trials::front(&mut out, at(o, 0) as usize);
     written(apdu_writer::write(p, area));
 }
 
 // Records, over the source 00 05.
 fn records(o: &[u8]) {
     let mut out = [0u8; 64];
-    let area = room(&mut out, at(o, 0));
+    let area = trials::front(&mut out, at(o, 0) as usize);
     let records = show::part(o, 1, o.len());
     written(item_writer::write(records, b"\x00\x05", area));
 }

@@ -50,3 +50,11 @@ pub fn frame(kind: u8, destination: u8, source: u8, data: &[u8], out: &mut [u8])
     let t = lay(out, r, data);
     lay(out, t, &[(sum % 256) as u8, (sum / 256) as u8])
 }
+
+// The front of an area, as far as it goes.
+pub fn front(out: &mut [u8], n: usize) -> &mut [u8] {
+    if n <= out.len() {
+        return &mut out[..n];
+    }
+    out
+}
