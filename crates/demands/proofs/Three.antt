@@ -26,7 +26,9 @@ use Rattle.collector.specs.declared.Fell.{Fell}
 use Rattle.collector.specs.declared.Forgot.{Forgot}
 use Rattle.collector.proofs.Demand as Box
 use Rattle.collector.proofs.Reached as Reached
-use Rattle.demands.specs.Demands.{ReadByPosition, CanBeOffered, FreshPasses, ReachedPasses, MessagesWhole}
+use Rattle.state.proofs.Exact.{state-exactly}
+use Rattle.hitchbarley.proofs.Demand.{octets-demand3}
+use Rattle.demands.specs.Demands.{ReadByPosition, CanBeOffered, FreshPasses, ReachedPasses, MessagesWhole, StatesExact, ReadOverOctets}
 use Rattle.demands.proofs.Calls.{stateOf, tells}
 
 pub read-by-position : ReadByPosition
@@ -40,6 +42,13 @@ reached-passes c area p z n run e o = let f = Reached.reached p (eq-eqb (length 
 
 pub messages-whole : MessagesWhole
 messages-whole = Box.messages
+
+-- ---- the same over octets
+pub states-exact : StatesExact
+states-exact = state-exactly
+
+pub read-over-octets : ReadOverOctets
+read-over-octets = octets-demand3
 
 -- ---- every way of offering a run to the box is a way of making the calls
 told-said : (x : Option (List ℕ)) (report : List ℕ) → told (saidSo x) (written x report) ≡ x

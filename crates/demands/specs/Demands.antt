@@ -78,6 +78,10 @@ use Rattle.collector.specs.declared.Collector.{Collector}
 use Rattle.collector.specs.declared.Fed.{Fed}
 use Rattle.collector.specs.declared.Fell.{Fell}
 use Rattle.collector.specs.declared.Forgot.{Forgot}
+use Rattle.state.specs.Layout.{stateOctets, Fits}
+use Rattle.state.specs.Calls.{Loads}
+use Rattle.hitchbarley.specs.Trunk.{stateBy}
+use Rattle.hitchbarley.specs.Offering.{Heard, Linked}
 use Rattle.demands.specs.Words.{One, Between, SixtyThenFiftyNine, BrokenReceiver, Broken, Four, WritesBy, SegmentChanges, unfedBy, quietBy, FeedChanges, shownService}
 
 -- ---- DEMAND 1. "Every call, on any octets, records, slot numbers or areas, stays in bounds and ends. Bad input gets the refusal number that document 01
@@ -379,3 +383,17 @@ MessagesWhole = (c : Collector) (area : List ℕ) → Passes c → length area �
     ended (p + length (wire front)) t ≡ some o → segmentAt o ≡ some g → (k : Key) (i n : ℕ)
     → (let log = history keys bacnet t p (slotsOf c) area run in
     Completes log k i n → begun keys k log ≡ true → Rebuilt keys k log (walk (rules keys bacnet) t p (slotsOf c) area run .area) i n))
+
+-- ---- THE SAME OVER OCTETS, for the calls that C and Rust link. "State to octets and back is .. the same state, so every promise carries over."
+
+-- octets are loaded as a state exactly when its fields fit and the octets are its layout
+abbrev pub StatesExact : Type 0
+StatesExact = Exactly Loads Fits stateOctets
+
+-- demand 3's first sentence of the exported calls: from a state area that holds a state which 59 passes, however the run is offered by them, reports and message
+-- area are the reading's, and the state area holds the state that the reading ends in
+abbrev pub ReadOverOctets : Type 0
+ReadOverOctets = (state : List ℕ) (c : Collector) (area : List ℕ) → Loads state c → Passes c → length area ≡ 65536 → (run : Run) (h : Heard)
+    → Linked (length (heldOf (c .receiver))) state area run h
+    → (let e = reading (rules keys bacnet) (c .receiver) (slotsOf c) area run in
+    (h .reports ≡ e .reports) × (h .area ≡ e .area) × Loads (h .state) (stateBy (e .state) (e .slots)))
