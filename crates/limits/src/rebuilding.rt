@@ -4,7 +4,6 @@ use crate::trial::Trial;
 use crate::trial::complete;
 use crate::trial::refused;
 use crate::trial::taken;
-use show::word;
 use trials::Tally;
 
 // From station 3, choice 12, with MOR.
@@ -29,15 +28,30 @@ fn last(invoke: u8, number: u8) -> Part {
     }
 }
 
-// Segments 0 to 254 of one octet each.
-fn to_254(fresh: Trial, area: &mut [u8; 65536]) -> Trial {
-    let mut t = fresh;
-    let mut n: u8 = 0;
-    while n < 255 {
-        t = t.segment(more(1, n), b"\x00", taken(0, word(n) + 1), area);
+// Segments of these octets each, from one number up to another, where so many octets are held.
+fn segments(
+    begun: Trial,
+    from: u8,
+    to: u8,
+    held: u32,
+    octets: &[u8],
+    area: &mut [u8; 65536],
+) -> Trial {
+    let each = (octets.len() % 512) as u32;
+    let mut now = held;
+    let mut t = begun;
+    let mut n = from;
+    while n < to {
+        now = std::num::wrapping_add_u32(now, each);
+        t = t.segment(more(1, n), octets, taken(0, now), area);
         n += 1;
     }
     t
+}
+
+// Segments 0 to 254 of one octet each.
+fn to_254(fresh: Trial, area: &mut [u8; 65536]) -> Trial {
+    segments(fresh, 0, 255, 0, b"\x00", area)
 }
 
 // Number 255 can only be the last; with MOR it frees the slot.
@@ -55,14 +69,9 @@ pub fn numbers(area: &mut [u8; 65536]) -> Tally {
 fn to_16302(fresh: Trial, area: &mut [u8; 65536]) -> Trial {
     let mut octets = [0u8; 494];
     trials::lay(&mut octets, 0, b"\x65\xFE\x3F\xFC");
-    let mut t = fresh.segment(more(1, 0), &octets, taken(0, 494), area);
+    let t = fresh.segment(more(1, 0), &octets, taken(0, 494), area);
     let rest = [0u8; 494];
-    let mut n: u8 = 1;
-    while n < 33 {
-        t = t.segment(more(1, n), &rest, taken(0, (word(n) + 1) * 494), area);
-        n += 1;
-    }
-    t
+    segments(t, 1, 33, 494, &rest, area)
 }
 
 // 82 octets more are 16,384 and 83 are too many, which frees the slot; empty segments are taken.

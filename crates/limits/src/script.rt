@@ -77,9 +77,8 @@ pub fn all(s: &[u8], area: &mut [u8; 65536]) {
     let mut left = s.len();
     while 0 < left {
         if from < s.len() {
-            let end = lines::place_of(s, from, b'\n');
-            c = line(c, show::part(s, from, end), area);
-            from = lines::after(s, end);
+            c = line(c, lines::line_at(s, from), area);
+            from = lines::next_line(s, from);
         }
         left -= 1;
     }

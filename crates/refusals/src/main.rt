@@ -27,19 +27,13 @@ fn line(s: &[u8]) {
     show::text(b"\n");
 }
 
-// The line at a place; the place of the next.
-fn one(s: &[u8], from: usize) -> usize {
-    let end = lines::place_of(s, from, b'\n');
-    line(show::part(s, from, end));
-    lines::after(s, end)
-}
-
 fn all(s: &[u8]) {
     let mut at = 0;
     let mut left = s.len();
     while 0 < left {
         if at < s.len() {
-            at = one(s, at);
+            line(lines::line_at(s, at));
+            at = lines::next_line(s, at);
         }
         left -= 1;
     }

@@ -25,6 +25,15 @@ pub fn after(s: &[u8], at: usize) -> usize {
     s.len()
 }
 
+// The line at a place, to its line feed or the text's end; the place of the next.
+pub fn line_at(s: &[u8], from: usize) -> &[u8] {
+    show::part(s, from, place_of(s, from, b'\n'))
+}
+
+pub fn next_line(s: &[u8], from: usize) -> usize {
+    after(s, place_of(s, from, b'\n'))
+}
+
 // The place after the next space.
 pub fn next_word(s: &[u8], at: usize) -> usize {
     after(s, place_of(s, at, b' '))

@@ -1,28 +1,25 @@
-use borrow.Author.Needs.{needs}
 use Prim.Native.Nat.{_-_}
-use Rattle.limits.proofs.rebuilding.to_254.Statement.{statement}
-use Rattle.limits.proofs.rebuilding.to_254.Tie as tie
+use borrow.Author.Needs.{needs}
+use Rattle.limits.proofs.rebuilding.segments.Statement.{statement}
+use Rattle.limits.proofs.rebuilding.segments.Tie as tie
 
 abbrev Inv-loop : tie.InvT-loop
-Inv-loop area₀ t₀ n₀ t5 area t n = Unit {0}
+Inv-loop from to held octets area₀ each now₀ t₀ n₀ area now t n = Unit {0}
 
 abbrev μ-loop : tie.MeasureT-loop
-μ-loop area₀ t₀ n₀ t5 area t n = 255 - n
+μ-loop from to held octets area₀ each now₀ t₀ n₀ area now t n = to - n
+
+cast-each : tie.Need-cast-each Inv-loop μ-loop
+cast-each c = search needs
 
 loop-holds : tie.Need-loop-holds Inv-loop μ-loop
 loop-holds c = search needs
 
+wrapping-add-u32-requires : tie.Need-wrapping-add-u32-requires Inv-loop μ-loop
+wrapping-add-u32-requires c κs = search needs
+
 more-requires : tie.Need-more-requires Inv-loop μ-loop
 more-requires c κs = search needs
-
-slice-aggregate-segment : tie.Need-slice-aggregate-segment Inv-loop μ-loop
-slice-aggregate-segment c = search needs
-
-word-requires : tie.Need-word-requires Inv-loop μ-loop
-word-requires c κs = search needs
-
-add-taken : tie.Need-add-taken Inv-loop μ-loop
-add-taken c = search needs
 
 taken-requires : tie.Need-taken-requires Inv-loop μ-loop
 taken-requires c κs = search needs
@@ -42,17 +39,16 @@ loop-again c = search needs
 returns : tie.Need-returns Inv-loop μ-loop
 returns c = search needs
 
-pub to-254-spec : {M : Type 1} → statement M
-to-254-spec =
+pub segments-spec : {M : Type 1} → statement M
+segments-spec =
     tie.close
     (tie.spec
     Inv-loop
     μ-loop
+    cast-each
     loop-holds
+    wrapping-add-u32-requires
     more-requires
-    slice-aggregate-segment
-    word-requires
-    add-taken
     taken-requires
     segment-requires
     add-n
