@@ -8,7 +8,7 @@ use lib.Dec.{lit≤}
 use lib.ListN.{length, take, drop, length-drop}
 use lib.Seq.{take-length}
 use borrow.Author.Tests.{lt-ltb, le-ltb, eq-eqb, ne-eqb}
-use Rattle.octets.specs.Choice.{given-true, given-false, given-cases}
+use Rattle.octets.specs.Choice.{given-true, given-false, given-cases, impossible}
 use Rattle.octets.specs.Reading.{oct}
 use Rattle.npdu.specs.Read.{readNpdu}
 use Rattle.npdu.specs.declared.Reading.{Reading}
@@ -76,11 +76,11 @@ params-some (Abort p) = lit≤ tt
 pub tags-good : (head : List ℕ) (x : Out) (fine : List ℕ) (n : ℕ) → counted x ≡ Items n → byTags head x fine ≡ fine
 unfolding counted
 tags-good head (good rs end) fine n e = refl
-tags-good head (bad y) fine n e = let z : _≡_ {A = ℕ} 0 1 = cc in absurd (omega arith)
+tags-good head (bad y) fine n e = impossible (cc)
 
 pub tags-bad : (head : List ℕ) (x : Out) (fine : List ℕ) (y : ℕ) → counted x ≡ Tally.Refused y → byTags head x fine ≡ refusal head y
 unfolding counted
-tags-bad head (good rs end) fine y e = let z : _≡_ {A = ℕ} 0 1 = cc in absurd (omega arith)
+tags-bad head (good rs end) fine y e = impossible (cc)
 tags-bad head (bad z) fine y e = let q : z ≡ y = cc in ap (refusal head) q
 
 -- ---- parts of a slice, as the code lends them

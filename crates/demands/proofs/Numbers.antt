@@ -8,7 +8,7 @@ use mathlib.Core.Bool.{Bool, true}
 use lib.ListN.{length}
 use lib.Dec.{ltb, leb, eqb}
 use borrow.Author.Tests.{ltb-true, ltb-false, leb-true}
-use Rattle.octets.specs.Choice.{pick, pick-case, pick-cases, given-cases, by-test}
+use Rattle.octets.specs.Choice.{pick, pick-case, pick-cases, given-cases, by-test, impossible}
 use Rattle.octets.specs.Reading.{oct, be16}
 use Rattle.tags.specs.Types.{longest, least, most}
 use Rattle.tags.specs.Head.{andThen, numberAt, twoAt, fourAt, lengthAt, firstRule, firstContent, wholeAt, signBad, signedAt, contentsAt, contextAt, applicationAt, headAt}
@@ -205,12 +205,12 @@ item-row s at = step-row (within (mostItems - 1) s) (within-row (mostItems - 1) 
 
 item-refused : (n : ℕ) (o : Out) → OutRow o → endOf o ≡ OneItem.Refused n → Row n
 unfolding endOf
-item-refused n (good rs end) h e = let z : _≡_ {A = ℕ} 0 1 = cc in absurd (omega arith)
+item-refused n (good rs end) h e = impossible (cc)
 item-refused n (bad x) h e = let z : x ≡ n = cc in rw (← z) h
 
 count-refused : (n : ℕ) (o : Out) → OutRow o → counted o ≡ Tally.Refused n → Row n
 unfolding counted
-count-refused n (good rs end) h e = let z : _≡_ {A = ℕ} 0 1 = cc in absurd (omega arith)
+count-refused n (good rs end) h e = impossible (cc)
 count-refused n (bad x) h e = let z : x ≡ n = cc in rw (← z) h
 
 -- 39 first, then the rows of a walk

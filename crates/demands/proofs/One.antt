@@ -9,7 +9,7 @@ use mathlib.Core.Option.{some}
 use lib.Dec.{eqb, ltb}
 use lib.ListN.{length, drop}
 use borrow.Author.Tests.{eqb-true, eqb-false, ltb-true, ltb-false, lt-ltb, le-ltb}
-use Rattle.octets.specs.Choice.{by-test, pick-case}
+use Rattle.octets.specs.Choice.{by-test, pick-case, impossible}
 use Rattle.octets.specs.Laid.{laid-one, laid-fault, laid-short, laid-over, laid-as}
 use Rattle.octets.specs.Splice.{splice, splice-front, splice-length, splice-behind}
 use Rattle.octets.specs.declared.Written.the-variants.{Wrote, Refused}
@@ -47,7 +47,7 @@ sixty-one f o area later r ne l =
     let e : f ≡ 0 = eqb-true f 0 z in
     by-test (ltb (length area) (length o))
     (λ t. let h = ltb-true _ _ t in (λ q. (e, h), λ q. w .short e h .0))
-    (λ t. let h = ltb-false _ _ t in (λ q. (let a : Wrote (length o) ≡ Refused 61 = sym (w .fine e h .0) ∙ q in let y : _≡_ {A = ℕ} 0 1 = cc in absurd (omega arith)), λ q. absurd (omega (arith, q .1)))))
+    (λ t. let h = ltb-false _ _ t in (λ q. (let a : Wrote (length o) ≡ Refused 61 = sym (w .fine e h .0) ∙ q in impossible (cc)), λ q. absurd (omega (arith, q .1)))))
     (λ z.
     let e = eqb-false f 0 z in
     (λ q. (let a : Refused f ≡ Refused 61 = sym (w .faulty e .0) ∙ q in let y : f ≡ 61 = cc in absurd (ne y)), λ q. absurd (e (q .0))))
@@ -91,8 +91,8 @@ module _ (area later : List ℕ) (r : Tally) where
 
   listed-by : (o : Out) → r ≡ listedOf (length area) o → later ≡ listing area o → ListedBy o
   unfolding counted
-  listed-by (good rs end) e d = (λ n q. (let y : _≡_ {A = ℕ} 0 1 = cc in absurd (omega arith)), λ k q. listed-good rs end k e d (let y : length rs ≡ k = cc in sym y))
-  listed-by (bad x) e d = (λ n q. listed-bad x n e d (let y : x ≡ n = cc in y), λ k q. (let y : _≡_ {A = ℕ} 0 1 = cc in absurd (omega arith)))
+  listed-by (good rs end) e d = (λ n q. (impossible (cc)), λ k q. listed-good rs end k e d (let y : length rs ≡ k = cc in sym y))
+  listed-by (bad x) e d = (λ n q. listed-bad x n e d (let y : x ≡ n = cc in y), λ k q. (impossible (cc)))
 
 pub listing-refuses : ListingRefuses
 listing-refuses s area later r h = listed-by area later r (itemsOf s) (h .answer) (h .after)

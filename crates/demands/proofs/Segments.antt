@@ -9,7 +9,7 @@ use mathlib.Core.Option.{Option, none, some}
 use lib.Dec.{eqb, ltb}
 use lib.ListN.{length, set}
 use borrow.Author.Tests.{ltb-false, eqb-true, eqb-false}
-use Rattle.octets.specs.Choice.{both, non, pick-case, pick-cases, by-test, pick-false, pick-true}
+use Rattle.octets.specs.Choice.{both, non, pick-case, pick-cases, by-test, pick-false, pick-true, impossible}
 use Rattle.octets.specs.Splice.{splice}
 use Rattle.messages.specs.Slots.{room, Segment, Slot, Box, boxed, lowest, orElse, isSome, empty, openTo, isFree, slotOf}
 use Rattle.messages.specs.Rows.{Answer, Done, kept, lost, freeAt, recordAt, settle, settled, fitted, before, rows, rebuild}
@@ -81,8 +81,8 @@ not-sixty g b (refused n) slots area h e = let z : n ≡ 60 = cc in by (h .1) z
     by : (Between 50 53 n × (slots ≡ b .slots)) ⊎ (Between 54 55 n × (slots ≡ freeAt keys (slotOf keys (g .key) (b .slots)) (b .slots))) → n ≡ 60 → ⊥
     by (inl x) z = omega (arith, x .0 .1)
     by (inr x) z = omega (arith, x .0 .1)
-not-sixty g b (taken i n) slots area h e = let z : _≡_ {A = ℕ} 0 1 = cc in omega arith
-not-sixty g b (completed i n) slots area h e = let z : _≡_ {A = ℕ} 0 1 = cc in omega arith
+not-sixty g b (taken i n) slots area h e = impossible (cc)
+not-sixty g b (completed i n) slots area h e = impossible (cc)
 
 pub take-does : TakeDoes
 take-does t g o area r later h =

@@ -7,7 +7,7 @@ use mathlib.Core.List.{List, [], _∷_}
 use mathlib.Core.Bool.{Bool, true, false}
 use lib.Dec.{ltb, eqb}
 use borrow.Author.Tests.{ltb-true, eq-eqb, eqb-true}
-use Rattle.octets.specs.Choice.{pick-case, pick-cases, both, non, both-left, both-right}
+use Rattle.octets.specs.Choice.{pick-case, pick-cases, both, non, both-left, both-right, impossible}
 use Rattle.octets.specs.Reading.{oct}
 use Rattle.octets.specs.Numbers.{longForm}
 use Rattle.items.specs.Records.{Rec}
@@ -137,13 +137,13 @@ module _ (kind choice : ℕ) (s : List ℕ) (rs : List Rec) where
 -- ---- tags first
 tags-first : (f : List Rec → Answer) (o : Out) (n : ℕ) → counted o ≡ Tally.Refused n → afterTags f o ≡ Refused n
 unfolding counted
-tags-first f (good rs end) n e = let z : _≡_ {A = ℕ} 0 1 = cc in absurd (omega arith)
+tags-first f (good rs end) n e = impossible (cc)
 tags-first f (bad x) n e = let z : x ≡ n = cc in ap Refused z
 
 tags-good : (f : List Rec → Answer) (o : Out) (k : ℕ) → counted o ≡ Tally.Items k → (rs : List Rec) × (afterTags f o ≡ f rs)
 unfolding counted
 tags-good f (good rs end) k e = (rs, refl)
-tags-good f (bad x) k e = let z : _≡_ {A = ℕ} 0 1 = cc in absurd (omega arith)
+tags-good f (bad x) k e = impossible (cc)
 
 abbrev Numbered : ℕ → ℕ → Answer → Type 0
 Numbered kind choice a = ((n : ℕ) → a ≡ Refused n → Between 40 43 n) × ((a ≡ Refused 43 → (m : Message) → For kind choice m → ⊥) × (((m : Message) → For kind choice m → ⊥) → a ≡ Refused 43))

@@ -7,7 +7,7 @@ use mathlib.Core.Bool.{Bool, true, false}
 use lib.ListN.{length, length-take, length-drop}
 use lib.Dec.{ltb, leb, eqb}
 use borrow.Author.Tests.{eqb-true, eqb-false, eq-eqb, leb-true, le-leb}
-use Rattle.octets.specs.Choice.{pick-so, both, by-test, both-true}
+use Rattle.octets.specs.Choice.{pick-so, both, by-test, both-true, impossible}
 use Rattle.tags.specs.Types.{longest, least, most}
 use Rattle.tags.specs.Layout.{Thing}
 use Rattle.tags.specs.Layout.Thing.{application, boolean, context, opening, closing}
@@ -30,7 +30,7 @@ unfolding insideTest
 inside-len source r e =
     by-test (eqb (r .len) 0)
     (λ z. let n : r .len ≡ 0 = eqb-true _ _ z in rw n)
-    (λ z. let a = pick-so (leb (r .place) (length source)) (leb (r .len) (length source - r .place)) false true (λ w. absurd (let v : _≡_ {A = ℕ} 0 1 = cc in omega arith)) (rw z at e) in
+    (λ z. let a = pick-so (leb (r .place) (length source)) (leb (r .len) (length source - r .place)) false true (λ w. impossible (cc)) (rw z at e) in
     simp (length-take, length-drop) (omega (arith, leb-true (r .place) (length source) (a .0), leb-true (r .len) (length source - r .place) (a .1))))
 
 pub len-inside : (source : List ℕ) (r : Rec) → r .len ≡ length (named source r) → insideTest (length source) (r .place) (r .len) ≡ true
@@ -117,7 +117,7 @@ module _ (source groups : List ℕ) (r : Rec) where
 
 pub rule-closing : (source groups : List ℕ) (r : Rec) → thingOf source r ≡ closing (r .number) → r .kind ≡ 3 → goodRecord source groups r ≡ closingRule groups r
 unfolding bracketRule recordOf
-rule-closing source [] r e k = same-test _ _ (λ a. tests-good source [] r (closing (r .number)) e a .fits) (λ b. absurd (let v : _≡_ {A = ℕ} 0 1 = cc in omega arith))
+rule-closing source [] r e k = same-test _ _ (λ a. tests-good source [] r (closing (r .number)) e a .fits) (λ b. impossible (cc))
 rule-closing source (m ∷ outer) r e k =
     let d : suc (length outer) - 1 ≡ length outer = omega arith in
     same-test _ _
@@ -133,7 +133,7 @@ rule-closing source (m ∷ outer) r e k =
 -- a kind above 3 names no item
 pub rule-none : (source groups : List ℕ) (r : Rec) → thingOf source r ≡ closing (r .number) → (r .kind ≡ 3 → ⊥) → goodRecord source groups r ≡ false
 unfolding recordOf
-rule-none source groups r e k = same-test _ _ (λ a. elim (k (tests-good source groups r (closing (r .number)) e a .fields .0)) [ ]) (λ b. absurd (let v : _≡_ {A = ℕ} 0 1 = cc in omega arith))
+rule-none source groups r e k = same-test _ _ (λ a. elim (k (tests-good source groups r (closing (r .number)) e a .fields .0)) [ ]) (λ b. impossible (cc))
 
 -- the test kind by kind is the test
 pub kind-rule : (source groups : List ℕ) (r : Rec) → goodRecord source groups r ≡ kindRule source groups r

@@ -8,7 +8,7 @@ use mathlib.Core.Bool.{true}
 use lib.ListN.{length, length-take, length-drop}
 use lib.Dec.{eqb}
 use borrow.Author.Tests.{eqb-true, eqb-false, eq-eqb, ltb-true, lt-ltb}
-use Rattle.octets.specs.Choice.{pick-case, by-test, both-true}
+use Rattle.octets.specs.Choice.{pick-case, by-test, both-true, impossible}
 use Rattle.tags.specs.Layout.{Thing, Valid, contentsOf, encode}
 use Rattle.tags.specs.Layout.Thing.{application, boolean, context, opening, closing}
 use Rattle.tags.specs.Decide.{validThing, valid-test, test-valid}
@@ -72,7 +72,7 @@ stands-balanced k groups (application n xs) ts e b = b
 stands-balanced k groups (boolean v) ts e b = b
 stands-balanced k groups (context n xs) ts e b = b
 stands-balanced k groups (opening n) ts e b = (ltb-true (length groups) deepest e, b)
-stands-balanced k [] (closing n) ts e b = let z : _≡_ {A = ℕ} 0 1 = cc in absurd (omega arith)
+stands-balanced k [] (closing n) ts e b = impossible (cc)
 stands-balanced k (m ∷ outer) (closing n) ts e b = (eqb-true n m e, b)
 
 pub balanced-stands : (k : ℕ) (groups : List ℕ) (t : Thing) (ts : List Thing) → Balanced (suc k) groups (t ∷ ts) → (stands groups t ≡ true) × Balanced k (openAfter groups t) ts

@@ -8,6 +8,7 @@ use mathlib.Core.Bool.{true}
 use lib.ListN.{length, take, drop, length-append}
 use lib.Dec.{ltb}
 use borrow.Author.Tests.{lt-ltb, ltb-true}
+use Rattle.octets.specs.Choice.{impossible}
 use Rattle.tags.specs.Types.{longest, most}
 use Rattle.tags.specs.Layout.{Thing, encode, contentsOf, numberOctets, lengthOctets, highBits, lowBits}
 use Rattle.tags.specs.Layout.Thing.{application, boolean, context, opening, closing}
@@ -64,7 +65,7 @@ good-some groups r (application n xs) g k = absurd (omega (arith, g .fields .0))
 good-some groups r (boolean v) g k = absurd (omega (arith, g .fields .0))
 good-some groups r (context n xs) g k = absurd (omega (arith, g .fields .0))
 good-some groups r (opening n) g k = absurd (omega (arith, g .fields .0))
-good-some [] r (closing n) g k = absurd (let v : _≡_ {A = ℕ} 0 1 = cc (g .fits) in omega arith)
+good-some [] r (closing n) g k = impossible (cc (g .fits))
 good-some (m ∷ outer) r (closing n) g k = omega arith
 
 -- the groups that are open after it, by its kind and number

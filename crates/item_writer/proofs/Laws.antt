@@ -7,7 +7,7 @@ use mathlib.Core.Bool.{true, false}
 use lib.ListN.{length, length-append}
 use lib.Dec.{leb, eqb}
 use borrow.Author.Tests.{eqb-true, eqb-false, ne-eqb, leb-true}
-use Rattle.octets.specs.Choice.{pick, pick-so, pick-not, both-true}
+use Rattle.octets.specs.Choice.{pick, pick-so, pick-not, both-true, impossible}
 use Rattle.octets.specs.Splice.{splice, splice-nil, splice-length, splice-join, splice-then}
 use Rattle.tags.specs.Layout.{Thing, numberOctets, lengthOctets}
 use Rattle.tags.specs.Layout.Thing.{application, boolean, context, opening, closing}
@@ -54,7 +54,7 @@ layout-length source r e =
 pub inside-bound : (size place len : ℕ) → insideTest size place len ≡ true → (len ≡ 0 → ⊥) → place + len ≤ size
 unfolding insideTest
 inside-bound size place len e h =
-    let a = pick-so (leb place size) (leb len (size - place)) false true (λ w. absurd (let v : _≡_ {A = ℕ} 0 1 = cc in omega arith)) (rw (ne-eqb len 0 h) at e) in
+    let a = pick-so (leb place size) (leb len (size - place)) false true (λ w. impossible (cc)) (rw (ne-eqb len 0 h) at e) in
     omega (arith, leb-true place size (a .0), leb-true len (size - place) (a .1))
 
 -- the room and the contents of a record that is ready
@@ -130,7 +130,7 @@ unfolding judged writeFault goodRecords
 judged-takes area source size e =
     let rs = recordsIn area in
     let o : ℕ = length (encodeAll (thingsOf source rs)) in
-    let a = pick-so (eqb (writeFault area source) 0) (Takes o) (Refused (writeFault area source)) (Takes size) (λ w. let v : _≡_ {A = ℕ} 0 1 = cc in omega arith) e in
+    let a = pick-so (eqb (writeFault area source) 0) (Takes o) (Refused (writeFault area source)) (Takes size) (λ w. impossible (cc)) e in
     let f : writeFault area source ≡ 0 = eqb-true _ _ (a .0) in
     let b = pick-so (eqb (length area % 12) 0) (pick (goodRecords source rs) 0 62) 62 0 (λ z. absurd (omega arith)) f in
     let g = pick-so (goodRecords source rs) 0 62 0 (λ z. absurd (omega arith)) (b .1) in
@@ -142,7 +142,7 @@ pub judged-refused : (area source : List ℕ) (x : ℕ) → judged area source �
 unfolding judged
 judged-refused area source x e =
     let f : ℕ = writeFault area source in
-    let a = pick-not (eqb f 0) (Takes (length (encodeAll (thingsOf source (recordsIn area))))) (Refused f) (Refused x) (λ w. let v : _≡_ {A = ℕ} 0 1 = cc in omega arith) e in
+    let a = pick-not (eqb f 0) (Takes (length (encodeAll (thingsOf source (recordsIn area))))) (Refused f) (Refused x) (λ w. impossible (cc)) e in
     let same : Refused f ≡ Refused x = a .1 in
     let z : f ≡ x = cc in
     (z, (λ w. eqb-false f 0 (a .0) (z ∙ w)))

@@ -8,7 +8,7 @@ use lib.ListN.{length, take, drop}
 use lib.Seq.{take-append-seam, length-take-le, getD-take}
 use lib.Dec.{ltb, eqb}
 use borrow.Author.Tests.{ltb-false, eqb-true, eq-eqb}
-use Rattle.octets.specs.Choice.{pick, pick-so, pick-not}
+use Rattle.octets.specs.Choice.{pick, pick-so, pick-not, impossible}
 use Rattle.octets.specs.Reading.{Octets}
 use Rattle.octets.specs.Splice.{splice, splice-length}
 use Rattle.octets.specs.Numbers.{valueAt, value-shift}
@@ -33,7 +33,7 @@ use Rattle.item_judge.proofs.Walk as walk
 pub wrote : (f : ℕ) (o area : List ℕ) (n : ℕ) (later : List ℕ) → Laid f o area (Wrote n) later → (f ≡ 0) × (n ≡ length o) × (take n later ≡ o)
 unfolding answerOf areaOf
 wrote f o area n later w =
-    let no : (x : ℕ) → Refused x ≡ Wrote n → ⊥ = λ x q. let z : _≡_ {A = ℕ} 0 1 = cc in omega arith in
+    let no : (x : ℕ) → Refused x ≡ Wrote n → ⊥ = λ x q. impossible (cc) in
     let a = pick-so (eqb f 0) (pick (ltb (length area) (length o)) (Refused 61) (Wrote (length o))) (Refused f) (Wrote n) (no f) (sym (w .answer)) in
     let b = pick-not (ltb (length area) (length o)) (Refused 61) (Wrote (length o)) (Wrote n) (no 61) (a .1) in
     let same : Wrote (length o) ≡ Wrote n = b .1 in
@@ -80,7 +80,7 @@ listed-room o lent listed n end w e =
     let count : length rs ≡ n = walk.records-length listed 0 n in
     let long : length (recordsOctets rs) ≡ 12 * length rs = records-length rs in
     let a : listedOf (length lent) (good rs end) ≡ Items n = rw e at (sym (w .answer)) in
-    let no : Tally.Refused 61 ≡ Items n → ⊥ = λ q. let z : _≡_ {A = ℕ} 0 1 = cc in omega arith in
+    let no : Tally.Refused 61 ≡ Items n → ⊥ = λ q. impossible (cc) in
     let b = pick-not (ltb (length lent) (length (recordsOctets rs))) (Tally.Refused 61) (Items (length rs)) (Items n) no a in
     let fits : length (recordsOctets rs) ≤ length lent = ltb-false _ _ (b .0) in
     let after : listed ≡ splice lent 0 (recordsOctets rs) = w .after ∙ rw (e, b .0) in

@@ -6,7 +6,7 @@ use mathlib.Core.List.{List, [], _∷_}
 use lib.ListN.{length, length-append, take, drop}
 use lib.Dec.{ltb}
 use borrow.Author.Tests.{ltb-false}
-use Rattle.octets.specs.Choice.{pick-not}
+use Rattle.octets.specs.Choice.{pick-not, impossible}
 use Rattle.octets.specs.Reading.{Octets}
 use Rattle.octets.specs.Has.{Has, has-take}
 use Rattle.octets.specs.Splice.{splice, splice-inside, splice-length}
@@ -55,10 +55,10 @@ record Lists (o : Out) (area : List ℕ) (n : ℕ) : Type 0 where
 lists : (o : Out) (area : List ℕ) (n : ℕ) → listedOf (length area) o ≡ Items n → Lists o area n
 unfolding listedOf listing
 lists (good rs end) area n e =
-    let w = pick-not (ltb (length area) (length (recordsOctets rs))) (Tally.Refused 61) (Items (length rs)) (Items n) (λ q. let z : _≡_ {A = ℕ} 0 1 = cc in omega arith) e in
+    let w = pick-not (ltb (length area) (length (recordsOctets rs))) (Tally.Refused 61) (Items (length rs)) (Items n) (λ q. impossible (cc)) e in
     let z : length rs ≡ n = cc (w .1) in
     record { records = rs; end = end; reading = refl; count = z; fits = ltb-false _ _ (w .0); laid = rw (w .0) }
-lists (bad x) area n e = let z : _≡_ {A = ℕ} 0 1 = cc in absurd (omega arith)
+lists (bad x) area n e = impossible (cc)
 
 laid-has : (area later o : List ℕ) → later ≡ splice area 0 o → length o ≤ length area → Has later 0 o
 laid-has area later o e h =

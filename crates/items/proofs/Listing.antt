@@ -5,6 +5,7 @@ use mathlib.Core.Path.{_≡_, refl, sym, ap, _∙_}
 use mathlib.Core.List.{List}
 use lib.ListN.{length}
 use borrow.Author.Tests.{lt-ltb, le-ltb}
+use Rattle.octets.specs.Choice.{impossible}
 use Rattle.items.specs.Records.{Rec, recordsOctets}
 use Rattle.items.specs.Reading.{Out, itemsOf, counted}
 use Rattle.items.specs.Reading.Out.{good, bad}
@@ -17,11 +18,11 @@ use Rattle.items.proofs.RecordOctets.{records-length, put-all}
 counted-good : (o : Out) (n : ℕ) → counted o ≡ Items n → (rs : List Rec) × (end : ℕ) × (o ≡ good rs end) × (length rs ≡ n)
 unfolding counted
 counted-good (good rs end) n e = (rs, end, refl, (let z : length rs ≡ n = cc in z))
-counted-good (bad x) n e = let z : _≡_ {A = ℕ} 0 1 = cc in absurd (omega arith)
+counted-good (bad x) n e = impossible (cc)
 
 counted-bad : (o : Out) (x : ℕ) → counted o ≡ Tally.Refused x → o ≡ bad x
 unfolding counted
-counted-bad (good rs end) x e = let z : _≡_ {A = ℕ} 0 1 = cc in absurd (omega arith)
+counted-bad (good rs end) x e = impossible (cc)
 counted-bad (bad y) x e = let z : y ≡ x = cc in ap bad z
 
 -- records that all fit are listed

@@ -5,6 +5,7 @@ use mathlib.Core.Path.{_≡_, refl, ap}
 use mathlib.Core.List.{List, [], _∷_, _++_, append-assoc}
 use lib.ListN.{length}
 use borrow.Author.Tests.{lt-leb, le-leb}
+use Rattle.octets.specs.Choice.{impossible}
 use Rattle.tags.specs.Head.{headAt}
 use Rattle.items.specs.Records.{Rec}
 use Rattle.items.specs.Reading.{Out, more, ending, step, walk, within}
@@ -30,7 +31,7 @@ more-records r rs end = refl
 
 -- good and bad are never both
 pub never : {X : Type 0} (x : ℕ) (rs : List Rec) (end : ℕ) → bad x ≡ good rs end → X
-never x rs end e = let z : _≡_ {A = ℕ} 0 1 = cc in absurd (omega arith)
+never x rs end e = impossible (cc)
 
 pub more-good : (r : Rec) (o : Out) (rs : List Rec) (end : ℕ) → more (r ∷ []) o ≡ good rs end → (qs : List Rec) × (o ≡ good qs end) × (rs ≡ r ∷ qs)
 unfolding more

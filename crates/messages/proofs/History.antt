@@ -9,7 +9,7 @@ use native.Mathlib.Omega.{arith}
 use lib.ListN.{length, set, drop, length-set, length-append, length-drop}
 use lib.Seq.{length-take-le}
 use borrow.Author.Tests.{eqb-true}
-use Rattle.octets.specs.Choice.{by-test, pick-case}
+use Rattle.octets.specs.Choice.{by-test, pick-case, impossible}
 use Rattle.octets.specs.Splice.{splice, splice-length}
 use Rattle.messages.specs.Slots.{room, part, Keys, KeyLaws, Segment, Slot, Box, boxed, empty, slotAt}
 use Rattle.messages.specs.Rows.{Answer, Done, awaiting, rebuild, forget}
@@ -126,11 +126,11 @@ module _ {Key : Type 0} (K : Keys Key) where
         → Whole K (g .key) (said g (d .answer) ∷ log) (part (room * i) n (d .box .area)) (g .number + 1) × (length (part (room * i) n (d .box .area)) ≡ n)
 
     ended-by : (d : Done Key) → Step K g b d → (i n : ℕ) → Ended i n d
-    ended-by d (stays m) i n = λ e bg. let y : _≡_ {A = ℕ} 0 1 = cc in absurd (omega arith)
-    ended-by d (frees m j f h q) i n = λ e bg. let y : _≡_ {A = ℕ} 0 1 = cc in absurd (omega arith)
+    ended-by d (stays m) i n = λ e bg. impossible (cc)
+    ended-by d (frees m j f h q) i n = λ e bg. impossible (cc)
     ended-by d (took j m P) i n =
         pick-case (Ended i n) (g .mor)
-        (λ e bg. let y : _≡_ {A = ℕ} 0 1 = cc in absurd (omega arith))
+        (λ e bg. impossible (cc))
         (λ e bg.
         let pi : i ≡ j = cc in
         let pn : n ≡ m + length (g .octets) = cc in

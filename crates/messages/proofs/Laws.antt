@@ -9,7 +9,7 @@ use lib.Dec.{eqb, ltb}
 use lib.ListN.{length, set, take, drop}
 use lib.Seq.{getD-set-same}
 use borrow.Author.Tests.{eqb-true, eqb-false, ne-eqb, le-ltb, ltb-true, ltb-false}
-use Rattle.octets.specs.Choice.{both, by-test, pick-case}
+use Rattle.octets.specs.Choice.{both, by-test, pick-case, impossible}
 use Rattle.octets.specs.Splice.{splice, splice-before, splice-behind}
 use Rattle.messages.specs.Slots.{room, part, Keys, KeyLaws, Segment, Slot, Box, boxed, lowest, orElse, empty, slotAt, isFree, slotOf}
 use Rattle.messages.specs.Rows.{Answer, Done, kept, lost, awaiting, settle, settled, fitted, rebuild}
@@ -53,7 +53,7 @@ module _ {Key : Type 0} (K : Keys Key) (L : KeyLaws K) (g : Segment Key) (b : Bo
       out : m ≡ k → (m ≡ 54 → ⊥) → (m ≡ 55 → ⊥) → (k ≡ 55) ⊎ (k ≡ 54) → lost K k (some i) b .box ≡ b
       out s x y (inl h) = absurd (y (s ∙ h))
       out s x y (inr h) = absurd (x (s ∙ h))
-  refusal-by d (took i n P) m = pick-case (Refusal m) (g .mor) (λ e. let y : _≡_ {A = ℕ} 0 1 = cc in absurd (omega arith)) (λ e. let y : _≡_ {A = ℕ} 0 1 = cc in absurd (omega arith))
+  refusal-by d (took i n P) m = pick-case (Refusal m) (g .mor) (λ e. impossible (cc)) (λ e. impossible (cc))
 
   pub refusal : (m : ℕ) → rebuild K g b .answer ≡ refused m → (rebuild K g b .box .area ≡ b .area) × ((m ≡ 54 → ⊥) → (m ≡ 55 → ⊥) → rebuild K g b .box ≡ b)
   refusal m = refusal-by (rebuild K g b) (stepped K L g b G) m
@@ -115,8 +115,8 @@ module _ {Key : Type 0} (K : Keys Key) (L : KeyLaws K) (g : Segment Key) (b : Bo
   Again i n d = d .answer ≡ taken i n → eqb (g .number) 0 ≡ false → rebuild K g (d .box) ≡ kept 52 (d .box)
 
   again-by : (i n : ℕ) (d : Done Key) → Step K g b d → Again i n d
-  again-by i n d (stays m) = λ e. let y : _≡_ {A = ℕ} 0 1 = cc in absurd (omega arith)
-  again-by i n d (frees m j f l q) = λ e. let y : _≡_ {A = ℕ} 0 1 = cc in absurd (omega arith)
+  again-by i n d (stays m) = λ e. impossible (cc)
+  again-by i n d (frees m j f l q) = λ e. impossible (cc)
   again-by i n d (took j m P) =
       pick-case (Again i n) (g .mor)
       (λ e z.
@@ -125,7 +125,7 @@ module _ {Key : Type 0} (K : Keys Key) (L : KeyLaws K) (g : Segment Key) (b : Bo
       let next : eqb (g .number) (slotAt K (b′ .slots) j .next) ≡ false =
       rw (getD-set-same (b .slots) j t (empty K) (P .inside)) (ne-eqb (g .number) (g .number + 1) (λ q. omega arith)) in
       repeated K g b′ j (find-set K L (b .slots) j (g .key) (P .inside) (P .sole) t (L .self (g .key))) z next)
-      (λ e. let y : _≡_ {A = ℕ} 0 1 = cc in absurd (omega arith))
+      (λ e. impossible (cc))
 
   pub again : (i n : ℕ) → rebuild K g b .answer ≡ taken i n → eqb (g .number) 0 ≡ false → rebuild K g (rebuild K g b .box) ≡ kept 52 (rebuild K g b .box)
   again i n = again-by i n (rebuild K g b) (stepped K L g b G)

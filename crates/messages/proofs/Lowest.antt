@@ -7,11 +7,11 @@ use Prim.Native.Nat.{ℕ, zero, suc, _<_}
 use native.Mathlib.Nat.{not-suc-le-zero, le-of-suc-le-suc}
 use native.Mathlib.Omega.{arith}
 use lib.ListN.{length, getD, set}
-use Rattle.octets.specs.Choice.{pick, by-test}
+use Rattle.octets.specs.Choice.{pick, by-test, impossible}
 use Rattle.messages.specs.Slots.{above, lowest}
 
 above-some : (o : Option ℕ) (i : ℕ) → above o ≡ some i → (j : ℕ) × (o ≡ some j) × (i ≡ suc j)
-above-some none i e = let z : _≡_ {A = ℕ} 0 1 = cc in absurd (omega arith)
+above-some none i e = impossible (cc)
 above-some (some j) i e = (j, refl, cc)
 
 above-none : (o : Option ℕ) → above o ≡ none → o ≡ none
@@ -20,7 +20,7 @@ above-none (some j) e = cc
 
 module _ {X : Type 0} (f : X → Bool) (d : X) where
   pub lowest-some : (xs : List X) (i : ℕ) → lowest f xs ≡ some i → (i < length xs) × (f (getD xs i d) ≡ true)
-  lowest-some [] i e = let z : _≡_ {A = ℕ} 0 1 = cc in absurd (omega arith)
+  lowest-some [] i e = impossible (cc)
   lowest-some (x ∷ xs) i e =
       by-test (f x)
       (λ t.
@@ -44,7 +44,7 @@ module _ {X : Type 0} (f : X → Bool) (d : X) where
 
   -- none below it
   pub lowest-least : (xs : List X) (i : ℕ) → lowest f xs ≡ some i → (j : ℕ) → j < i → f (getD xs j d) ≡ false
-  lowest-least [] i e j l = let z : _≡_ {A = ℕ} 0 1 = cc in absurd (omega arith)
+  lowest-least [] i e j l = impossible (cc)
   lowest-least (x ∷ xs) i e zero l =
       by-test (f x) (λ t. let s : some zero ≡ some i = rw t at e in let z : i ≡ zero = cc in absurd (omega arith)) (λ t. t)
   lowest-least (x ∷ xs) i e (suc j) l =

@@ -4,10 +4,11 @@ use mathlib.Core.Bool.{true, false}
 use mathlib.Core.Option.{Option, none, some}
 use Prim.Native.Nat.{ℕ}
 use native.Mathlib.Omega.{arith}
+use Rattle.octets.specs.Choice.{impossible}
 use Rattle.messages.specs.Slots.{isSome}
 
 pub never : {P : Type 0} → false ≡ true → P
-never e = absurd (let y : _≡_ {A = ℕ} 0 1 = cc in omega arith)
+never e = impossible (cc)
 
 pub some-true : (o : Option ℕ) → isSome o ≡ true → (i : ℕ) × (o ≡ some i)
 some-true none e = never e

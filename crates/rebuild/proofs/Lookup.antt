@@ -9,6 +9,7 @@ use native.Mathlib.Numerals.{add-one}
 use native.Mathlib.Omega.{arith}
 use lib.ListN.{length, getD, drop, drop-of-length-le}
 use lib.Seq.{drop-cons}
+use Rattle.octets.specs.Choice.{impossible}
 use Rattle.messages.specs.Slots.{above, lowest, isSome}
 use Rattle.rebuild.specs.View.{found}
 use Rattle.rebuild.specs.declared.search.Found.the-variants.{At, Nothing}
@@ -29,13 +30,13 @@ module _ {X : Type 0} (f : X → Bool) (d : X) (xs : List X) (i : ℕ) where
 
 -- what was found
 pub found-at : (o : Option ℕ) (i : ℕ) → found 0 o ≡ At i → o ≡ some i
-found-at none i e = let z : _≡_ {A = ℕ} 0 1 = cc in absurd (omega arith)
+found-at none i e = impossible (cc)
 found-at (some k) i e = let z : 0 + k ≡ i = cc in let q : k ≡ i = omega arith in ap some q
 
 pub found-none : (start : ℕ) (o : Option ℕ) → found start o ≡ Nothing → o ≡ none
 found-none start none e = refl
-found-none start (some k) e = let z : _≡_ {A = ℕ} 0 1 = cc in absurd (omega arith)
+found-none start (some k) e = impossible (cc)
 
 pub found-some : (start i : ℕ) (o : Option ℕ) → found start o ≡ At i → isSome o ≡ true
-found-some start i none e = let z : _≡_ {A = ℕ} 0 1 = cc in absurd (omega arith)
+found-some start i none e = impossible (cc)
 found-some start i (some k) e = refl

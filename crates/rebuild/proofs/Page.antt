@@ -7,7 +7,7 @@ use native.Mathlib.Omega.{arith}
 use lib.Dec.{eqb}
 use lib.ListN.{length}
 use borrow.Author.Tests.{eqb-true, eq-eqb}
-use Rattle.octets.specs.Choice.{both-left, both-right}
+use Rattle.octets.specs.Choice.{both-left, both-right, impossible}
 use Rattle.messages.specs.Slots.{room, part, KeyLaws, Segment, Box, boxed}
 use Rattle.messages.specs.Rows.{Answer, Done, rebuild}
 use Rattle.messages.specs.Rows.Answer.{refused, taken, completed}
@@ -50,13 +50,13 @@ fresh-passes = refl
 
 -- the answer's cases are told apart
 held-taken : (w : Answer) (s n : ℕ) → stepOf w ≡ Held s n → w ≡ taken s n
-held-taken (refused m) s n e = let z : _≡_ {A = ℕ} 0 1 = cc in absurd (omega arith)
+held-taken (refused m) s n e = impossible (cc)
 held-taken (taken i m) s n e = cc
-held-taken (completed i m) s n e = let z : _≡_ {A = ℕ} 0 1 = cc in absurd (omega arith)
+held-taken (completed i m) s n e = impossible (cc)
 
 complete-completed : (w : Answer) (s n : ℕ) → stepOf w ≡ Complete s n → w ≡ completed s n
-complete-completed (refused m) s n e = let z : _≡_ {A = ℕ} 0 1 = cc in absurd (omega arith)
-complete-completed (taken i m) s n e = let z : _≡_ {A = ℕ} 0 1 = cc in absurd (omega arith)
+complete-completed (refused m) s n e = impossible (cc)
+complete-completed (taken i m) s n e = impossible (cc)
 complete-completed (completed i m) s n e = cc
 
 -- from slots that 59 passes and an area that 60 passes

@@ -2,17 +2,14 @@
 use Prim.Native.Nat.{ℕ, _+_, _-_, _≤_}
 use native.Mathlib.Omega.{arith}
 use mathlib.Core.Path.{_≡_, sym, _∙_}
-use mathlib.Core.List.{List, [], _++_, append-nil, append-assoc}
-use lib.ListN.{length, take, drop, length-append, length-drop, drop-of-length-le}
+use mathlib.Core.List.{List, _++_, append-assoc}
+use lib.ListN.{length, take, drop, length-append, length-drop}
 use lib.Seq.{length-take-le}
-use Rattle.octets.specs.Splice.{splice, splice-front, splice-then}
+use Rattle.octets.specs.Splice.{splice, splice-whole, splice-then}
 
 -- octets laid over as many are all there is
 pub laid-whole : (a s later : List ℕ) → length a ≡ length s → later ≡ splice a 0 s → later ≡ s
-laid-whole a s later h e =
-    let k : length a ≤ length s = omega arith in
-    let d : drop (length s) a ≡ [] = drop-of-length-le a k in
-    e ∙ splice-front a s ∙ rw (d, append-nil)
+laid-whole a s later h e = e ∙ splice-whole a s h
 
 -- a part of an area, copied into an array of its size
 pub copied : (n at : ℕ) (a o later : List ℕ) → later ≡ splice a 0 (take n (drop at o)) → length a ≡ n → at + n ≤ length o → later ≡ take n (drop at o)

@@ -7,7 +7,7 @@ use mathlib.Core.Bool.{Bool, true, false}
 use lib.ListN.{length, length-append, List·getD-append}
 use lib.Dec.{ltb, leb, eqb}
 use borrow.Author.Tests.{lt-ltb, le-ltb, lt-leb, ltb-true, ltb-false, eqb-true, eqb-false}
-use Rattle.octets.specs.Choice.{pick, pick-case, pick-so, by-test}
+use Rattle.octets.specs.Choice.{pick, pick-case, pick-so, by-test, impossible}
 use Rattle.octets.specs.Reading.{oct, be16}
 use Rattle.tags.specs.Types.{longest, least, most}
 use Rattle.tags.specs.Head.{andThen, numberAt, twoAt, fourAt, lengthAt, firstRule, firstContent, wholeAt, signBad, signedAt, contentsAt, contextAt, applicationAt, headAt}
@@ -52,13 +52,13 @@ module _ (s b : List ℕ) where
   late-other c x y h e = other x h e
 
   late-item : (c : Cut) (k n v p l : ℕ) (y : Tag) → Late c (Item k n v p l) y
-  late-item c k n v p l y e = let z : _≡_ {A = ℕ} 0 1 = cc in absurd (omega arith)
+  late-item c k n v p l y e = impossible (cc)
 
   late-opening : (c : Cut) (n p : ℕ) (y : Tag) → Late c (Opening n p) y
-  late-opening c n p y e = let z : _≡_ {A = ℕ} 0 1 = cc in absurd (omega arith)
+  late-opening c n p y e = impossible (cc)
 
   late-closing : (c : Cut) (n p : ℕ) (y : Tag) → Late c (Closing n p) y
-  late-closing c n p y e = let z : _≡_ {A = ℕ} 0 1 = cc in absurd (omega arith)
+  late-closing c n p y e = impossible (cc)
 
   -- an octet that is there
   here : (i : ℕ) → i < length s → oct full i ≡ oct s i

@@ -8,6 +8,7 @@ use mathlib.Core.Logic.{⊎-elim}
 use lib.ListN.{length, length-append, getD, set, take, drop, take-append-drop}
 use lib.Seq.{length-take-le}
 use borrow.Author.Tests.{lt-leb, le-leb, eq-eqb, ne-eqb, eqb-true}
+use Rattle.octets.specs.Choice.{impossible}
 use Rattle.tags.specs.Types.{longest}
 use Rattle.tags.specs.Head.{headAt}
 use Rattle.tags.specs.declared.Tag.{Tag}
@@ -173,9 +174,9 @@ module _ (s : List ℕ) (request : Bool) (from q : Reached) (so : Sofar s reques
 
     module _ (some : 0 < q .left) (t : Tag) (tag : t ≡ headAt s (q .at)) where
       early-is : (u : Tag) → isEarly u ≡ true → u ≡ Tag.Refused 30
-      early-is (Item k n v p l) e = let z : _≡_ {A = ℕ} 0 1 = cc in absurd (omega arith)
-      early-is (Opening n p) e = let z : _≡_ {A = ℕ} 0 1 = cc in absurd (omega arith)
-      early-is (Closing n p) e = let z : _≡_ {A = ℕ} 0 1 = cc in absurd (omega arith)
+      early-is (Item k n v p l) e = impossible (cc)
+      early-is (Opening n p) e = impossible (cc)
+      early-is (Closing n p) e = impossible (cc)
       early-is (Tag.Refused x) e = rw (eqb-true x 30 e)
 
       pub ran-early : isEarly t ≡ true → Ran s request from q
@@ -195,7 +196,7 @@ module _ (s : List ℕ) (request : Bool) (from q : Reached) (so : Sofar s reques
 
       module _ (late : isEarly t ≡ false) (x : Reached) (w : Stepped s request q t x) where
         same-tag : (b : List ℕ) → headAt (s ++ b) (q .at) ≡ t
-        same-tag b = ⊎-elim (λ h. let z : isEarly t ≡ true = ap isEarly (tag ∙ h) in let y : _≡_ {A = ℕ} 0 1 = cc in absurd (omega arith)) (λ h. h ∙ sym tag) (head-front s b (q .at))
+        same-tag b = ⊎-elim (λ h. let z : isEarly t ≡ true = ap isEarly (tag ∙ h) in impossible (cc)) (λ h. h ∙ sym tag) (head-front s b (q .at))
 
         same-now : (b : List ℕ) → reading (s ++ b) request from ≡ reading (s ++ b) request x
         same-now b = so .3 b ∙ w .same b (behind b) (same-tag b)

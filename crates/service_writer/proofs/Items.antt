@@ -8,7 +8,7 @@ use lib.ListN.{length, take, drop, length-append, drop-of-length-le}
 use lib.Seq.{take-length}
 use lib.Dec.{ltb}
 use borrow.Author.Tests.{lt-ltb, ltb-false}
-use Rattle.octets.specs.Choice.{pick-not, by-test}
+use Rattle.octets.specs.Choice.{pick-not, by-test, impossible}
 use Rattle.octets.specs.Splice.{splice, splice-nil, splice-front, splice-then, splice-length, splice-inside}
 use Rattle.octets.specs.Numbers.{digits, widthOf, length-digits, width-range}
 use Rattle.tags.specs.Layout.{encode, highBits, numberOctets, lowBits, lengthOctets}
@@ -87,7 +87,7 @@ put-as e p = rw (← e) p
 pub not-wide : (t : Target) → wideTarget t ≡ false → (t .object ≤ 1023) × (t .instance ≤ lastInstance)
 unfolding wideTarget
 not-wide t e =
-    let w = pick-not (ltb 1023 (t .object)) true (ltb lastInstance (t .instance)) false (λ d. let z : _≡_ {A = ℕ} 0 1 = cc in omega arith) e in
+    let w = pick-not (ltb 1023 (t .object)) true (ltb lastInstance (t .instance)) false (λ d. impossible (cc)) e in
     (ltb-false 1023 (t .object) (w .0), ltb-false lastInstance (t .instance) (w .1))
 
 -- the length of the area stays

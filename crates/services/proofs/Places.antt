@@ -7,7 +7,7 @@ use mathlib.Core.Bool.{Bool, true, false}
 use lib.ListN.{length}
 use lib.Dec.{ltb, leb, eqb}
 use borrow.Author.Tests.{lt-ltb, ltb-false, eqb-true, eqb-false, eq-eqb, ne-eqb, leb-true, leb-false}
-use Rattle.octets.specs.Choice.{pick, both, pick-not, pick-so, by-test, both-true}
+use Rattle.octets.specs.Choice.{pick, both, pick-not, pick-so, by-test, both-true, impossible}
 use Rattle.octets.specs.Reading.{oct, Octets}
 use Rattle.octets.specs.Numbers.{valueAt, longForm}
 use Rattle.tags.specs.Types.{least, most}
@@ -53,19 +53,19 @@ Lacks kind number (r ∷ rest) = is kind number r ≡ false
 found-tag : (kind number p l : ℕ) (t : Tag) → foundIn kind number t ≡ At p l → (v : ℕ) × (t ≡ Item kind number v p l)
 unfolding foundIn
 found-tag kind number p l (Item k n v q m) e =
-    let w = pick-so (both (eqb k kind) (eqb n number)) (At q m) Missing (At p l) (λ d. let z : _≡_ {A = ℕ} 0 1 = cc in omega arith) e in
+    let w = pick-so (both (eqb k kind) (eqb n number)) (At q m) Missing (At p l) (λ d. impossible (cc)) e in
     let b = both-true (eqb k kind) (eqb n number) (w .0) in
     let x : k ≡ kind = eqb-true k kind (b .0) in
     let y : n ≡ number = eqb-true n number (b .1) in
     let z : q ≡ p = cc (w .1) in
     let u : m ≡ l = cc (w .1) in
     (v, rw (x, y, z, u))
-found-tag kind number p l (Opening n q) e = let z : _≡_ {A = ℕ} 0 1 = cc in absurd (omega arith)
-found-tag kind number p l (Closing n q) e = let z : _≡_ {A = ℕ} 0 1 = cc in absurd (omega arith)
-found-tag kind number p l (Tag.Refused x) e = let z : _≡_ {A = ℕ} 0 1 = cc in absurd (omega arith)
+found-tag kind number p l (Opening n q) e = impossible (cc)
+found-tag kind number p l (Closing n q) e = impossible (cc)
+found-tag kind number p l (Tag.Refused x) e = impossible (cc)
 
 both-false : (k n kind number d v p l : ℕ) → pick (both (eqb k kind) (eqb n number)) (At p l) Missing ≡ Missing → is kind number (rec k n d v p l) ≡ false
-both-false k n kind number d v p l e = pick-not (both (eqb k kind) (eqb n number)) (At p l) Missing Missing (λ d. let z : _≡_ {A = ℕ} 0 1 = cc in omega arith) e .0
+both-false k n kind number d v p l e = pick-not (both (eqb k kind) (eqb n number)) (At p l) Missing Missing (λ d. impossible (cc)) e .0
 
 -- no tag is refused where records are left, so a refused one stands at the end
 nothing-left : (s : List ℕ) (at : ℕ) (rs : List Rec) → Left s at rs → (x : ℕ) → headAt s at ≡ Tag.Refused x → rs ≡ []
@@ -170,8 +170,8 @@ four-of at v p l (application n xs) a e =
     omega arith
 four-of at v p l (boolean b) a e = let z : _≡_ {A = ℕ} 1 12 = cc in absurd (omega arith)
 four-of at v p l (context n xs) a e = let z : _≡_ {A = ℕ} 1 0 = cc in absurd (omega arith)
-four-of at v p l (opening n) a e = let z : _≡_ {A = ℕ} 0 1 = cc in absurd (omega arith)
-four-of at v p l (closing n) a e = let z : _≡_ {A = ℕ} 0 1 = cc in absurd (omega arith)
+four-of at v p l (opening n) a e = impossible (cc)
+four-of at v p l (closing n) a e = impossible (cc)
 
 pub object-four : (s : List ℕ) → Octets s → (at p l : ℕ) → foundIn 0 12 (headAt s at) ≡ At p l → l ≡ 4
 object-four s os at p l e =
@@ -224,7 +224,7 @@ past-deep next (r ∷ inner) h n to rest =
 ended : (o : Out) (to : ℕ) → One.Next to ≡ endOf o → (rs : List Rec) × (o ≡ good rs to)
 unfolding endOf
 ended (good rs end) to e = (rs, (let z : to ≡ end = cc in rw z))
-ended (bad x) to e = let z : _≡_ {A = ℕ} 0 1 = cc in absurd (omega arith)
+ended (bad x) to e = impossible (cc)
 
 pub group-on : (s : List ℕ) (at n p to : ℕ) → headAt s at ≡ Opening n p → One.Next to ≡ endOf (itemAt s at) → p < to
 unfolding itemAt step
@@ -336,12 +336,12 @@ module _ (kind choice : ℕ) (s : List ℕ) where
     where
       go : (o : Out) → itemsOf s ≡ o → counted o ≡ Tally.Items n → r ≡ afterTags (layoutFor kind choice s) (itemsOf s)
       go (good rs end) f g = rw f (h rs (left-all s rs end f))
-      go (bad x) f g = let z : _≡_ {A = ℕ} 0 1 = cc in absurd (omega arith)
+      go (bad x) f g = impossible (cc)
 
   pub read-bad : (x : ℕ) → counted (itemsOf s) ≡ Tally.Refused x → Refused x ≡ readService kind choice s
   unfolding readService counted
   read-bad x e = go (itemsOf s) e
     where
       go : (o : Out) → counted o ≡ Tally.Refused x → Refused x ≡ afterTags (layoutFor kind choice s) o
-      go (good rs end) g = let z : _≡_ {A = ℕ} 0 1 = cc in absurd (omega arith)
+      go (good rs end) g = impossible (cc)
       go (bad y) g = let z : y ≡ x = cc in rw z

@@ -7,7 +7,7 @@ use mathlib.Core.Bool.{Bool, true, false}
 use lib.ListN.{length, length-append}
 use lib.Dec.{ltb}
 use borrow.Author.Tests.{eq-eqb, eqb-true, ltb-false}
-use Rattle.octets.specs.Choice.{both, non, pick-not, by-test}
+use Rattle.octets.specs.Choice.{both, non, pick-not, by-test, impossible}
 use Rattle.octets.specs.Reading.{Octets}
 use Rattle.octets.specs.Has.{Has, has-left, has-right, has-bound, has-cut}
 use Rattle.octets.specs.Numbers.{valueAt}
@@ -30,7 +30,7 @@ use Rattle.services.proofs.Groups.{balanced-more, split, past}
 
 -- good and refused are never both
 pub never : {X : Type 0} (x : ℕ) (v : Service) → Refused x ≡ Good v → X
-never x v e = let z : _≡_ {A = ℕ} 0 1 = cc in absurd (omega arith)
+never x v e = impossible (cc)
 
 -- these items stand from a place on, with no group open
 pub record Here (o : List ℕ) (at : ℕ) (ts : List Thing) : Type 0 where
@@ -50,7 +50,7 @@ pub record Shape (kind number : ℕ) (make : List ℕ → Thing) : Type 0 where
   pub peel : (k : ℕ) (xs : List ℕ) (ts : List Thing) → Balanced k [] (make xs ∷ ts) → (j : ℕ) × (j ≤ k) × Balanced j [] ts
 
 pub not-so : {X : Type 0} → false ≡ true → X
-not-so e = let z : _≡_ {A = ℕ} 0 1 = cc in absurd (omega arith)
+not-so e = impossible (cc)
 
 pub contexts : (n : ℕ) → Shape 1 n (context n)
 unfolding recordOf

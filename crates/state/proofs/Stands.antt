@@ -9,7 +9,7 @@ use lib.Dec.{eqb, leb, lit≤}
 use lib.ListN.{length, take, drop, length-drop}
 use lib.Seq.{length-take-le}
 use borrow.Author.Tests.{ne-eqb, lt-leb, leb-true, eqb-true}
-use Rattle.octets.specs.Choice.{both, pick-so}
+use Rattle.octets.specs.Choice.{both, pick-so, impossible}
 use Rattle.octets.specs.Reading.{oct, Octets}
 use Rattle.octets.specs.Every.{octets-part}
 use Rattle.octets.specs.Has.{Has, has-append, has-take, has-all}
@@ -20,7 +20,7 @@ use Rattle.state.specs.Calls.{phaseGood, phaseAt, slotsGood, slotAt, sta
 use Rattle.state.proofs.Parts.{Shaped, fits-shaped, link-size, slots-size, three-size, state-parts}
 
 not-false : {P : Type 0} → false ≡ true → P
-not-false e = let z : _≡_ {A = ℕ} 0 1 = cc in let v : ⊥ = omega arith in elim v [ ]
+not-false e = impossible (cc)
 
 no-other : (p : ℕ) → eqb p 3 ≡ true → (p ≡ 3 → ⊥) → ⊥
 no-other p e n = n (eqb-true p 3 e)

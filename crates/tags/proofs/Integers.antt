@@ -9,7 +9,7 @@ use lib.ListN.{length, getD}
 use lib.Seq.{ext-getD}
 use lib.Dec.{lit<, ltb, leb, eqb}
 use borrow.Author.Tests.{ltb-true, ltb-false, leb-true, leb-false, eqb-true, eqb-false, lt-ltb, le-ltb}
-use Rattle.octets.specs.Choice.{pick-cases, by-test, non, non-true}
+use Rattle.octets.specs.Choice.{pick-cases, by-test, non, non-true, impossible}
 use Rattle.octets.specs.Reading.{oct, Octets}
 use Rattle.octets.specs.Numbers.{valueAt, widthOf, longForm, value-below, value-same, short-form, long-form}
 use Rattle.tags.specs.Head.{signBad}
@@ -26,7 +26,7 @@ short-unsigned x (y ∷ xs) = by-test (eqb x 0) (λ e. rw (e, lt-ltb 1 (suc (suc
 
 -- one to four octets keep it exactly when no fewer octets hold their value
 pub unsigned-shortest : (xs : List ℕ) → Octets xs → length xs ≤ 4 → shortUnsigned xs ≡ true → widthOf (valueAt xs 0 (length xs)) ≡ length xs
-unsigned-shortest [] os h e = let z : _≡_ {A = ℕ} 0 1 = cc in absurd (omega arith)
+unsigned-shortest [] os h e = impossible (cc)
 unsigned-shortest (x ∷ xs) os h e = short-form (x ∷ xs) os 0 (suc (length xs)) (omega arith) h (non-true (longForm x (suc (length xs))) (sym (short-unsigned x xs) ∙ e))
 
 pub shortest-unsigned : (xs : List ℕ) → Octets xs → 1 ≤ length xs → widthOf (valueAt xs 0 (length xs)) ≡ length xs → shortUnsigned xs ≡ true
@@ -92,7 +92,7 @@ module _ (s : List ℕ) (os : Octets s) (p k : ℕ) where
       let same = weight 255 (eqb-true a 255 c) in
       let half = upper (leb-true 128 b (rw (d, c) at e)) in
       rw (le-ltb (2 * v) (256 ^ suc (suc k)) (omega arith), le-ltb (2 * u) (256 ^ suc k) half) (ap minus (omega arith)))
-      (λ c. let z : false ≡ true = rw (d, c) at e in let y : _≡_ {A = ℕ} 0 1 = cc in absurd (omega arith)))
+      (λ c. let z : false ≡ true = rw (d, c) at e in impossible (cc)))
 
   -- any other first octet is needed: one octet less does not hold the value
   pub signed-needs : signBad a b ≡ false → Holds (suc k) (signedValue s p (suc (suc k))) → ⊥
@@ -121,7 +121,7 @@ holds-more n m h (minus x) w = let g : 256 ^ n ≤ 256 ^ m = pow-le-pow-right (l
 
 -- "3 signed, .. two's complement, shortest": contents that keep the rule are as short as their value allows
 pub signed-shortest : (xs : List ℕ) → Octets xs → shortSigned xs ≡ true → (n : ℕ) → 1 ≤ n → Holds n (signedValue xs 0 (length xs)) → length xs ≤ n
-signed-shortest [] os e n h w = let z : _≡_ {A = ℕ} 0 1 = cc in absurd (omega arith)
+signed-shortest [] os e n h w = impossible (cc)
 signed-shortest (x ∷ []) os e n h w = h
 signed-shortest (x ∷ y ∷ rest) os e n h w =
     by-test (leb (suc (suc (length rest))) n) (λ d. leb-true (suc (suc (length rest))) n d) (λ d.
@@ -148,7 +148,7 @@ same-octets xs ys os ot l e =
     ext-getD 0 xs ys l (λ i w. let z : 0 + i ≡ i = omega arith in let g : getD xs (0 + i) 0 ≡ getD ys (0 + i) 0 = value-same xs ys os ot 0 0 (length xs) e i w in rw z at g)
 
 some-signed : (xs : List ℕ) → shortSigned xs ≡ true → 1 ≤ length xs
-some-signed [] e = let z : _≡_ {A = ℕ} 0 1 = cc in absurd (omega arith)
+some-signed [] e = impossible (cc)
 some-signed (x ∷ xs) e = omega arith
 
 pub unsigned-unique : (xs ys : List ℕ) → Octets xs → Octets ys → length xs ≤ 4 → length ys ≤ 4 → shortUnsigned xs ≡ true → shortUnsigned ys ≡ true

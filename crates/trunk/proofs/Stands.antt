@@ -1,16 +1,16 @@
 -- Where a frame stands, the reading gives it.
 use mathlib.Core.Path.{_≡_, refl, sym, ap, _∙_}
 use mathlib.Core.Bool.{true}
-use mathlib.Core.List.{List, [], _∷_, _++_, append-assoc, append-nil}
+use mathlib.Core.List.{List, [], _∷_, _++_, append-assoc}
 use mathlib.Core.Option.{Option, none, some}
 use Prim.Native.Nat.{ℕ, zero, suc, _+_, _<_, _≤_}
 use native.Mathlib.Nat.{le-refl}
 use native.Mathlib.Omega.{arith}
-use lib.ListN.{length, take, length-append, drop-of-length-le}
+use lib.ListN.{length, take, length-append}
 use lib.Seq.{take-at}
 use borrow.Author.Tests.{le-ltb, eq-eqb, ne-eqb}
 use Rattle.octets.specs.Reading.{Octets}
-use Rattle.octets.specs.Splice.{splice-front}
+use Rattle.octets.specs.Splice.{splice-whole}
 use Rattle.sums.specs.Sums.{headerCheck, dataCheck}
 use Rattle.sums.proofs.Good.{header-good, data-good}
 use Rattle.runs.specs.Run.{Event, Trace, ended}
@@ -55,9 +55,6 @@ span-full (suc n) p [] es e = absurd (omega arith)
 span-full (suc n) p (x ∷ xs) es e =
     rw (span-full n (p + 1) xs es (omega arith)) (ap (λ (q : ℕ). full (x ∷ xs) q es) (omega arith))
 
-laid-whole : (xs s : List ℕ) → length xs ≡ length s → laid xs s ≡ xs
-laid-whole xs s e = splice-front s xs ∙ rw (drop-of-length-le s {i = length xs} (omega arith)) (append-nil xs)
-
 length-check : (xs : List ℕ) → length (dataCheck xs) ≡ 2
 unfolding dataCheck
 length-check xs = refl
@@ -96,7 +93,7 @@ frame-ends kind to from d h₀ c s p es os fits lh ls =
     let split : came (h ++ (headerCheck h ∷ dataPart d)) ++ es ≡ all = ap (λ (l : List ℕ). came l ++ es) (sym (append-assoc h (headerCheck h ∷ []) (dataPart d))) ∙ came-append six (dataPart d) es in
     let read = header m (readN m) (λ q h c s es lh ls le. by-position m h c s q es lh ls le) 5 0 h₀ c s p all (omega arith) lh ls (le-refl m) in
     let spans : span 5 p all ≡ full six (p + 5) more = span-full 5 p six more (simp length-append (omega arith)) in
-    let own : laid (take 5 six) h₀ ≡ h = rw (take-at h (headerCheck h ∷ []) 5 l) (laid-whole h h₀ (omega arith)) in
+    let own : laid (take 5 six) h₀ ≡ h = rw (take-at h (headerCheck h ∷ []) 5 l) (splice-whole h₀ h (omega arith)) in
     ap (λ (l : List Event). ended (p + 5 + length (dataPart d)) (steps p (at (Header 0) (kept h₀ c s)) l)) split
     ∙ ap (ended (p + 5 + length (dataPart d))) (read ∙ ap (afterHeader (readN m) (kept h₀ c s)) (prefixed-none (span 5 p all) ∙ spans))
     ∙ rw own (judge (readN m) kind to from d c s (p + 5) es os fits)

@@ -10,7 +10,7 @@ use lib.Dec.{eqb, ltb}
 use lib.ListN.{length, getD, set, take}
 use lib.Seq.{take-suc-set, take-all, length-take-le}
 use borrow.Author.Tests.{le-ltb, le-leb, lt-leb, ne-eqb, ltb-true, ltb-false, eqb-true, eqb-false}
-use Rattle.octets.specs.Choice.{by-test, pick-not}
+use Rattle.octets.specs.Choice.{by-test, pick-not, impossible}
 use Rattle.octets.specs.Reading.{Octets}
 use Rattle.sums.specs.Sums.{headerRun, headerStep, headerStart, headerLeft, headerCheck, dataRun, dataStep, dataStart, dataLeft, dataCheck}
 use Rattle.sums.proofs.Good.{run-append, header-only, data-only}
@@ -54,10 +54,10 @@ frameless (Damage n) = true
 
 -- what is no frame is passed over
 pub no-some : (o : Out) → none ≡ some o → ⊥
-no-some o e = let z : _≡_ {A = ℕ} 0 1 = cc in omega arith
+no-some o e = impossible (cc)
 
 no-frame : (n : ℕ) (h d : List ℕ) → some (damage n) ≡ some (good h d) → ⊥
-no-frame n h d e = let z : _≡_ {A = ℕ} 0 1 = cc in omega arith
+no-frame n h d e = impossible (cc)
 
 pub skipped : (o : Outcome) (r : Receiver) (p q : ℕ) (t : Trace Out Receiver) (h d : List ℕ) → frameless o ≡ true → ended q (tell p (outOf o r) t) ≡ some (good h d) → ended q t ≡ some (good h d)
 skipped Quiet r p q t h d f e = e
