@@ -3,12 +3,12 @@ use Prim.Native.Nat.{ℕ, _+_, _-_, _/_, _%_}
 use native.Mathlib.Omega.{arith}
 use mathlib.Core.Path.{_≡_, refl}
 use mathlib.Core.List.{List, _++_}
-use mathlib.Core.Bool.{Bool, true, false}
+use mathlib.Core.Bool.{Bool}
 use lib.ListN.{length, length-append}
 use lib.Seq.{getD-append-add}
 use lib.Dec.{ltb, leb, eqb}
 use borrow.Author.Tests.{leb-true, leb-false, ltb-true, ltb-false, lt-leb, le-leb, lt-ltb, le-ltb}
-use Rattle.octets.specs.Choice.{pick, by-test}
+use Rattle.octets.specs.Choice.{pick, pick-two, by-test}
 use Rattle.octets.specs.Reading.{oct, be16}
 use Rattle.tags.specs.Types.{least, most, longest}
 use Rattle.tags.specs.Head.{andThen, numberAt, twoAt, fourAt, lengthAt, firstRule, wholeAt, signedAt, contentsAt, contextAt, applicationAt, headAt}
@@ -28,8 +28,7 @@ tagMoved n (Closing c p) = Closing c (n + p)
 tagMoved n (Refused x) = Refused x
 
 pub moved-pick : {A : Type 0} (m : A → A) {x y x′ y′ : A} (b : Bool) → y ≡ m x → y′ ≡ m x′ → pick b y y′ ≡ m (pick b x x′)
-moved-pick m true e f = e
-moved-pick m false e f = f
+moved-pick {A} m b e f = pick-two (λ (y x : A). y ≡ m x) b (λ _. e) (λ _. f)
 
 module _ (a b : List ℕ) where
   there : (at : ℕ) → oct (a ++ b) (length a + at) ≡ oct b at

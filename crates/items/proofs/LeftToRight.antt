@@ -3,12 +3,12 @@ use Prim.Native.Nat.{ℕ, zero, suc, _+_, _≤_, _<_}
 use native.Mathlib.Omega.{arith}
 use mathlib.Core.Path.{_≡_, refl, sym}
 use mathlib.Core.List.{List, [], _∷_, _++_}
-use mathlib.Core.Bool.{Bool, true, false}
+use mathlib.Core.Bool.{Bool}
 use mathlib.Core.Logic.{⊎-elim}
 use lib.ListN.{length, length-append}
 use lib.Dec.{leb, eqb}
 use borrow.Author.Tests.{lt-leb, leb-false, le-ltb}
-use Rattle.octets.specs.Choice.{pick, by-test}
+use Rattle.octets.specs.Choice.{pick, pick-two, by-test}
 use Rattle.tags.specs.Types.{longest}
 use Rattle.tags.specs.Head.{headAt}
 use Rattle.tags.specs.declared.Tag.{Tag}
@@ -34,8 +34,7 @@ module _ (a b : List ℕ) (x : ℕ) (whole : x ≡ 30 → ⊥) (closed : x ≡ 3
   end-front at (n ∷ groups) e = closed (let z : x ≡ 36 = cc in z)
 
   pick-front : (t : Bool) {o o′ p p′ : Out} → (o ≡ bad x → p ≡ bad x) → (o′ ≡ bad x → p′ ≡ bad x) → pick t o o′ ≡ bad x → pick t p p′ ≡ bad x
-  pick-front true f g = f
-  pick-front false f g = g
+  pick-front t f g = pick-two (λ (o p : Out). o ≡ bad x → p ≡ bad x) t (λ _. f) (λ _. g)
 
   more-front : (rs : List Rec) (o p : Out) → (o ≡ bad x → p ≡ bad x) → more rs o ≡ bad x → more rs p ≡ bad x
   more-front rs o p f e = rw (f (more-refused rs o x e)) (more-bad rs x)

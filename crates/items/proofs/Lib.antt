@@ -1,3 +1,4 @@
+pub mod Refusals
 pub mod Machine
 pub mod Onward
 pub mod Steps

@@ -3,16 +3,17 @@ use Prim.Native.Nat.{ℕ, _+_, _-_, _*_, _/_, _%_, _≤_, _<_}
 use native.Mathlib.Omega.{arith}
 use mathlib.Core.Path.{_≡_, refl}
 use mathlib.Core.List.{List, _++_}
-use mathlib.Core.Bool.{Bool, true, false}
+use mathlib.Core.Bool.{Bool, false}
 use lib.ListN.{length, length-append, List·getD-append}
 use lib.Dec.{ltb, leb, eqb}
 use borrow.Author.Tests.{lt-ltb, le-ltb, lt-leb, ltb-true, ltb-false, eqb-true, eqb-false}
-use Rattle.octets.specs.Choice.{pick, pick-case, pick-so, by-test, impossible}
+use Rattle.octets.specs.Choice.{pick, pick-so, pick-two, by-test, impossible}
 use Rattle.octets.specs.Reading.{oct, be16}
 use Rattle.tags.specs.Types.{longest, least, most}
 use Rattle.tags.specs.Head.{andThen, numberAt, twoAt, fourAt, lengthAt, firstRule, firstContent, wholeAt, signBad, signedAt, contentsAt, contextAt, applicationAt, headAt}
 use Rattle.tags.specs.declared.Tag.{Tag}
 use Rattle.tags.specs.declared.Tag.the-variants.{Item, Opening, Closing, Refused}
+use Rattle.tags.proofs.Refusals.{first-rule, first-content}
 use Rattle.service_writer.specs.declared.judge.Cut.{Cut}
 use Rattle.service_writer.specs.Judging.{cutAs, cutLength, cutOf}
 
@@ -20,7 +21,14 @@ pub cut-three : (s : List ℕ) (p k n v : ℕ) → 254 ≤ oct s p → v ≡ oct
 unfolding cutLength
 cut-three s p k n v h e = let z : p + 1 + 1 ≡ p + 2 = omega arith in rw (le-ltb _ _ h, z, e)
 
--- a refusal with another number than 30
+-- another number than 30
+abbrev Other : ℕ → Type 0
+Other x = x ≡ 30 → ⊥
+
+none : Other 0
+none e = omega arith
+
+-- a refusal with such a number
 other : {X : Type 0} (x : ℕ) → (x ≡ 30 → ⊥) → Refused x ≡ Refused 30 → X
 other x h e = absurd (h (let z : x ≡ 30 = cc in z))
 
@@ -43,10 +51,6 @@ module _ (s b : List ℕ) where
 
   abbrev Late : Cut → Tag → Tag → Type 0
   Late c x y = x ≡ Refused 30 → Reaches c y
-
-  late-pick : (c : Cut) (t : Bool) {x y x′ y′ : Tag} → (t ≡ true → Late c x y) → (t ≡ false → Late c x′ y′) → Late c (pick t x x′) (pick t y y′)
-  late-pick c true f g = f refl
-  late-pick c false f g = g refl
 
   late-other : (c : Cut) (x : ℕ) (y : Tag) → (x ≡ 30 → ⊥) → Late c (Refused x) y
   late-other c x y h e = other x h e
@@ -115,8 +119,8 @@ module _ (s b : List ℕ) where
   late-context : (p l n : ℕ) → p + 7 ≤ length s → Late (cutLength s p 1 n) (contextAt s l n p) (contextAt full l n p)
   unfolding contextAt
   late-context p l n room =
-      late-pick (cutLength s p 1 n) (eqb l 6) (λ _. late-opening _ n p _) (λ _.
-      late-pick (cutLength s p 1 n) (eqb l 7) (λ _. late-closing _ n p _) (λ _.
+      pick-two (Late (cutLength s p 1 n)) (eqb l 6) (λ _. late-opening _ n p _) (λ _.
+      pick-two (Late (cutLength s p 1 n)) (eqb l 7) (λ _. late-closing _ n p _) (λ _.
       late-length p 1 n room l _ _
       (λ h. rw (le-ltb (length s) p (omega arith), le-ltb (length s - p) l (omega arith)) (late-item _ 1 n 0 p l _))
       (λ v q five most near.
@@ -127,16 +131,6 @@ module _ (s b : List ℕ) where
       (λ e. rw e (late-item _ 1 n 0 q v _))))))
 
   -- the contents of an application item, where its first two octets are there: missing ones decide last
-  first-other : (n v a : ℕ) → firstContent n v a ≡ 30 → ⊥
-  unfolding firstContent
-  first-other n v a =
-      let N : ℕ → Type 0 = λ x. x ≡ 30 → ⊥ in
-      let four : N 34 = λ e. omega arith in
-      let none : N 0 = λ e. omega arith in
-      pick-case N (eqb n 7) (pick-case N (ltb 5 a) four none)
-      (pick-case N (eqb n 8) (pick-case N (ltb 7 a) four (pick-case N (eqb v 1) (pick-case N (ltb 0 a) four none) none))
-      (pick-case N (eqb a 0) (pick-case N (ltb 1 v) (pick-case N (eqb n 2) four (pick-case N (eqb n 9) four none)) none) none))
-
   abbrev Missing : ℕ → ℕ → ℕ → ℕ → Type 0
   Missing q v x y = x ≡ 30 → (length s < q + v) × (y ≡ wholeAt full q v)
 
@@ -145,8 +139,7 @@ module _ (s b : List ℕ) where
   missing-whole q v h e = let w = pick-so (ltb (length s - q) v) 30 0 30 (λ z. omega arith) e in (omega (arith, ltb-true (length s - q) v (w .0)), refl)
 
   missing-pick : (q v : ℕ) (t : Bool) {x y x′ y′ : ℕ} → Missing q v x y → Missing q v x′ y′ → Missing q v (pick t x x′) (pick t y y′)
-  missing-pick q v true f g = f
-  missing-pick q v false f g = g
+  missing-pick q v t f g = pick-two (Missing q v) t (λ _. f) (λ _. g)
 
   missing-other : (q v x y : ℕ) → (x ≡ 30 → ⊥) → Missing q v x y
   missing-other q v x y h e = absurd (h e)
@@ -159,7 +152,7 @@ module _ (s b : List ℕ) where
       let whole : Missing q v (wholeAt s q v) (wholeAt full q v) = missing-whole q v (omega arith) in
       rw (lt-leb (length s) q a, there q a, here q a, lt-leb (length s) (q + 1) d, there (q + 1) d, here (q + 1) d)
       (missing-pick q v (eqb v 0) (missing-other q v 0 0 (λ e. omega arith))
-      (missing-pick q v (ltb 0 (firstContent n v (oct s q))) (missing-other q v _ _ (first-other n v (oct s q)))
+      (missing-pick q v (ltb 0 (firstContent n v (oct s q))) (missing-other q v _ _ (first-content Other none (λ e. omega arith) n v (oct s q)))
       (missing-pick q v (eqb n 3)
       (missing-pick q v (ltb v 2) whole (missing-pick q v (signBad (oct s q) (oct s (q + 1))) (missing-other q v 34 34 (λ e. omega arith)) whole))
       whole)))
@@ -187,37 +180,24 @@ module _ (s b : List ℕ) where
   unfolding applicationAt
   late-application p l n room =
       let c : Cut = cutLength s p 0 n in
-      late-pick c (ltb 12 n) (λ _. late-other c 31 _ (λ x. omega arith)) (λ _.
-      late-pick c (eqb n 1) (λ _. late-item c 0 1 l p 0 _) (λ _.
+      pick-two (Late c) (ltb 12 n) (λ _. late-other c 31 _ (λ x. omega arith)) (λ _.
+      pick-two (Late c) (eqb n 1) (λ _. late-item c 0 1 l p 0 _) (λ _.
       late-length p 0 n room l _ _
       (λ h.
-      late-pick c (ltb l (least n)) (λ _. late-other c 33 _ (λ x. omega arith)) (λ _.
-      late-pick c (ltb (most n) l) (λ _. late-other c 33 _ (λ x. omega arith)) (λ _.
+      pick-two (Late c) (ltb l (least n)) (λ _. late-other c 33 _ (λ x. omega arith)) (λ _.
+      pick-two (Late c) (ltb (most n) l) (λ _. late-other c 33 _ (λ x. omega arith)) (λ _.
       λ e. let r = late-rule p n l (omega arith) (λ x. absurd (omega arith)) (omega arith) e in absurd (omega (arith, r .ends)))))
       (λ v q five fits near.
-      late-pick (cutAs 0 n q v) (ltb v (least n)) (λ _. late-other _ 33 _ (λ x. omega arith)) (λ _.
-      late-pick (cutAs 0 n q v) (ltb (most n) v) (λ _. late-other _ 33 _ (λ x. omega arith)) (λ _.
+      pick-two (Late (cutAs 0 n q v)) (ltb v (least n)) (λ _. late-other _ 33 _ (λ x. omega arith)) (λ _.
+      pick-two (Late (cutAs 0 n q v)) (ltb (most n) v) (λ _. late-other _ 33 _ (λ x. omega arith)) (λ _.
       late-rule q n v (omega arith) (λ _. five) fits)))))
 
   -- any item
   late-class : (t p n : ℕ) → p + 7 ≤ length s → Late (cutLength s p (t % 16 / 8) n) (pick (eqb (t % 16 / 8) 1) (contextAt s (t % 8) n p) (applicationAt s (t % 8) n p)) (pick (eqb (t % 16 / 8) 1) (contextAt full (t % 8) n p) (applicationAt full (t % 8) n p))
   late-class t p n room =
-      late-pick (cutLength s p (t % 16 / 8) n) (eqb (t % 16 / 8) 1)
+      pick-two (Late (cutLength s p (t % 16 / 8) n)) (eqb (t % 16 / 8) 1)
       (λ e. let k : t % 16 / 8 ≡ 1 = eqb-true (t % 16 / 8) 1 e in rw k (late-context p (t % 8) n room))
       (λ e. let d = eqb-false (t % 16 / 8) 1 e in let k : t % 16 / 8 ≡ 0 = omega arith in rw k (late-application p (t % 8) n room))
-
-  rule-other : (t : ℕ) → firstRule t ≡ 30 → ⊥
-  unfolding firstRule
-  rule-other t =
-      let N : ℕ → Type 0 = λ x. x ≡ 30 → ⊥ in
-      let one : N 31 = λ e. omega arith in
-      let two : N 32 = λ e. omega arith in
-      let none : N 0 = λ e. omega arith in
-      pick-case N (eqb (t % 16 / 8) 1) none
-      (pick-case N (eqb (t / 16) 15) (pick-case N (ltb (t % 8) 6) none two)
-      (pick-case N (ltb 12 (t / 16)) one
-      (pick-case N (ltb 5 (t % 8)) two
-      (pick-case N (eqb (t / 16) 1) (pick-case N (ltb 1 (t % 8)) two none) none))))
 
   late-head : (at : ℕ) → at + 9 ≤ length s → Late (cutOf s at) (headAt s at) (headAt full at)
   unfolding headAt numberAt cutOf
@@ -226,7 +206,7 @@ module _ (s b : List ℕ) where
       let d : at + 1 < length s = omega arith in
       let t : ℕ = oct s at in
       rw (lt-leb (length s) at a, there at a, here at a, lt-leb (length s) (at + 1) d, there (at + 1) d, here (at + 1) d)
-      (late-pick _ (ltb 0 (firstRule t)) (λ _. late-other _ (firstRule t) _ (rule-other t)) (λ _.
+      (pick-two (Late _) (ltb 0 (firstRule t)) (λ _. late-other _ (firstRule t) _ (first-rule Other none (λ e. omega arith) (λ e. omega arith) t)) (λ _.
       by-test (ltb (t / 16) 15) (λ e. rw e (late-class t (at + 1) (t / 16) (omega arith))) (λ e.
       rw e
       (by-test (ltb (oct s (at + 1)) 15) (λ f. rw f (late-other _ 31 _ (λ x. omega arith))) (λ f.

@@ -14,6 +14,7 @@ use Rattle.tags.specs.Head.{headAt}
 use Rattle.tags.specs.declared.Tag.{Tag}
 use Rattle.tags.specs.declared.Tag.the-variants.{Item, Opening, Closing}
 use Rattle.tags.proofs.Bounds.{TagIn, head-in}
+use Rattle.tags.proofs.Refusals.{TagHas, refusals-have}
 use Rattle.items.specs.Records.{rec}
 use Rattle.items.specs.Reading.{Out, ending, closes, step, walk, deepest}
 use Rattle.items.specs.Reading.Out.{good, bad}
@@ -25,7 +26,6 @@ use Rattle.service_writer.specs.declared.judge.Phase.{Phase}
 use Rattle.service_writer.specs.declared.judge.Reached.{Reached}
 use Rattle.service_writer.specs.Judging.{phaseAfter, phaseFault, outFault, leftFault, openOf, reading, pastItem, movedTo, refusedWith, isEarly, Ready, FitsOne, TagFits, Ends, Stepped, Ran}
 use Rattle.service_writer.proofs.Phases.{phase-front, fault-moved, fault-more, fault-bad}
-use Rattle.service_writer.proofs.Refusals.{TagSome, head-some}
 
 -- where an item may begin, it is read
 walk-next : (k : ℕ) (s : List ℕ) (at : ℕ) (groups : List ℕ) → 0 < k → at < length s → walk k s at groups ≡ step (walk (k - 1) s) (headAt s at) groups
@@ -186,9 +186,9 @@ module _ (s : List ℕ) (request : Bool) (from q : Reached) (so : Sofar s reques
       ready-now = (some, so .1, so .2)
 
       pub fits-now : length s ≤ longest → TagFits s t
-      fits-now small = subst (TagFits s) (sym tag) (go (headAt s (q .at)) (head-in s (q .at)) (head-some s (q .at)))
+      fits-now small = subst (TagFits s) (sym tag) (go (headAt s (q .at)) (head-in s (q .at)) (refusals-have (λ n. 0 < n) (λ n low high. omega arith) s (q .at)))
         where
-          go : (u : Tag) → TagIn s (q .at) u → TagSome u → TagFits s u
+          go : (u : Tag) → TagIn s (q .at) u → TagHas (λ n. 0 < n) u → TagFits s u
           go (Item k n v p l) i h = (omega (arith, i .within), λ e. omega (arith, i .within))
           go (Opening n p) i h = tt
           go (Closing n p) i h = tt

@@ -1,5 +1,4 @@
 pub mod Items
-pub mod Refusals
 pub mod Phases
 pub mod Going
 pub mod Cuts

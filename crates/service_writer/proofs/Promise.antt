@@ -23,12 +23,12 @@ use Rattle.services.specs.declared.Service.the-variants.{ReadPropertyAck, Write
 use Rattle.services.specs.declared.ReadAck.{ReadAck}
 use Rattle.services.specs.declared.WriteRequest.{WriteRequest}
 use Rattle.services.specs.declared.Target.{Target}
+use Rattle.services.proofs.Refusals.{AnswerHas, read-has}
 use Rattle.service_writer.specs.Writing.{kindOf, choiceOf, ranked, frontOf, behindOf, roomOf, octetsOf, wideTarget, tooWide, refusalOf, readFault, faultOf, rankedFault}
 use Rattle.service_writer.specs.declared.judge.Phase.the-variants.{Inside}
 use Rattle.service_writer.specs.Judging.{outFault}
 use Rattle.service_writer.proofs.Items.{not-wide, ranked-length, ranked-parts}
 use Rattle.service_writer.proofs.Fronts.{ranked-fault}
-use Rattle.service_writer.proofs.Refusals.{Some, read-some}
 
 -- the octets were read before
 module _ (kind choice : ℕ) (o area : List ℕ) (a : Answer) (e : a ≡ readService kind choice o) where
@@ -46,7 +46,7 @@ module _ (kind choice : ℕ) (o area : List ℕ) (a : Answer) (e : a ≡ readSer
   unfolding refusalOf
   settle-refused x d =
       let r : readService kind choice o ≡ Refused x = sym e ∙ d in
-      let s : 0 < x = subst Some r (read-some kind choice o) in
+      let s : 0 < x = subst (AnswerHas (λ n. 0 < n)) r (read-has (λ n. 0 < n) (λ n low high. omega arith) kind choice o) in
       laid-as {f = x} (sym (ap refusalOf r)) refl (laid-fault x o area (λ z. omega arith))
 
 -- three runs of octets, one after the other

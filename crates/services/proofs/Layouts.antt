@@ -7,7 +7,7 @@ use mathlib.Core.List.{List, [], _∷_, _++_, append-nil}
 use mathlib.Core.Bool.{Bool, true, false}
 use lib.Dec.{eqb}
 use borrow.Author.Tests.{eqb-true}
-use Rattle.octets.specs.Choice.{pick-cases, both, by-test, both-true}
+use Rattle.octets.specs.Choice.{pick-cases, both, by-test, both-true, not-so}
 use Rattle.octets.specs.Reading.{Octets}
 use Rattle.octets.specs.Numbers.{digits}
 use Rattle.tags.specs.Layout.{Thing}
@@ -25,7 +25,7 @@ use Rattle.services.specs.declared.Service.{Service}
 use Rattle.services.specs.declared.Service.the-variants.{ReadProperty, ReadPropertyAck, WriteProperty, WhoIs, IAm, Error}
 use Rattle.services.specs.declared.Target.{Target}
 use Rattle.services.specs.declared.Span.{Span}
-use Rattle.services.proofs.Things.{never, not-so, Here, contexts, applications, number-read, option-read, group-read, last-read, last-number}
+use Rattle.services.proofs.Things.{never, Here, contexts, applications, number-read, option-read, group-read, last-read, last-number}
 use Rattle.services.proofs.Pointed.{targetOf, target-read, device-read}
 
 -- the octets of a service's value are those of these items

@@ -7,3 +7,4 @@ pub mod Layouts
 pub mod Written
 pub mod Exact
 pub mod Worked
+pub mod Refusals

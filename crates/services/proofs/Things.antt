@@ -7,7 +7,7 @@ use mathlib.Core.Bool.{Bool, true, false}
 use lib.ListN.{length, length-append}
 use lib.Dec.{ltb}
 use borrow.Author.Tests.{eq-eqb, eqb-true, ltb-false}
-use Rattle.octets.specs.Choice.{both, non, pick-not, by-test, impossible}
+use Rattle.octets.specs.Choice.{both, non, pick-not, by-test, impossible, not-so}
 use Rattle.octets.specs.Reading.{Octets}
 use Rattle.octets.specs.Has.{Has, has-left, has-right, has-bound, has-cut}
 use Rattle.octets.specs.Numbers.{valueAt}
@@ -48,9 +48,6 @@ pub record Shape (kind number : ℕ) (make : List ℕ → Thing) : Type 0 where
   pub flat : (xs : List ℕ) → depthAfter 0 (make xs) ≡ 0
   pub holds : (xs : List ℕ) → contentsOf (make xs) ≡ xs
   pub peel : (k : ℕ) (xs : List ℕ) (ts : List Thing) → Balanced k [] (make xs ∷ ts) → (j : ℕ) × (j ≤ k) × Balanced j [] ts
-
-pub not-so : {X : Type 0} → false ≡ true → X
-not-so e = impossible (cc)
 
 pub contexts : (n : ℕ) → Shape 1 n (context n)
 unfolding recordOf

@@ -45,9 +45,9 @@ LengthIn s at (Is v q) = (v ≤ longest) × (at ≤ q) × (q ≤ length s)
 LengthIn s at (Bad x) = Unit {0}
 
 -- what follows a field, by what is known of it
-pub and-then : (P : Tag → Type 0) (Q : Field → Type 0) (f : Field) {k : ℕ → ℕ → Tag} → Q f → ((v p : ℕ) → Q (Is v p) → P (k v p)) → ((x : ℕ) → P (Refused x)) → P (andThen f k)
+pub and-then : (P : Tag → Type 0) (Q : Field → Type 0) (f : Field) {k : ℕ → ℕ → Tag} → Q f → ((v p : ℕ) → Q (Is v p) → P (k v p)) → ((x : ℕ) → Q (Bad x) → P (Refused x)) → P (andThen f k)
 and-then P Q (Is v p) q f g = f v p q
-and-then P Q (Bad x) q f g = g x
+and-then P Q (Bad x) q f g = g x q
 
 pub number-in : (s : List ℕ) (at : ℕ) → NumberIn s at (numberAt s at)
 unfolding numberAt
@@ -127,7 +127,7 @@ module _ (s : List ℕ) (at l n p : ℕ) (small : n ≤ 254) (on : at < p) (in-s
       and-then (TagIn s at) (LengthIn s p) (lengthAt s p l) (length-in s p l in-s) (λ v q h.
       pick-cases (TagIn s at) (ltb (length s) q) (λ _. tt) (λ h1.
       pick-cases (TagIn s at) (ltb (length s - q) v) (λ _. tt) (λ h2.
-      record { class = omega arith; number = small; value = omega arith; on = omega arith; within = omega (arith, ltb-false) }))) (λ _. tt)))
+      record { class = omega arith; number = small; value = omega arith; on = omega arith; within = omega (arith, ltb-false) }))) (λ _ _. tt)))
 
   pub application-in : (n ≡ 1 → l ≤ 1) → TagIn s at (applicationAt s l n p)
   unfolding applicationAt
@@ -138,7 +138,7 @@ module _ (s : List ℕ) (at l n p : ℕ) (small : n ≤ 254) (on : at < p) (in-s
       pick-cases (TagIn s at) (ltb v (least n)) (λ _. tt) (λ h1.
       pick-cases (TagIn s at) (ltb (most n) v) (λ _. tt) (λ h2.
       pick-cases (TagIn s at) (ltb 0 (contentsAt s q n v)) (λ _. tt) (λ h3.
-      record { class = omega arith; number = small; value = omega arith; on = omega arith; within = contents-in s q v (h .2) n h3 })))) (λ _. tt)))
+      record { class = omega arith; number = small; value = omega arith; on = omega arith; within = contents-in s q v (h .2) n h3 })))) (λ _ _. tt)))
 
 -- what the tag octet alone rules out: length bits over 5 of a type up to 12, and over 1 of a boolean
 pub first-bits : (b : ℕ) → (b % 16 / 8 ≡ 1 → ⊥) → b / 16 ≤ 12 → ltb 0 (firstRule b) ≡ false → b % 8 ≤ 5
@@ -165,7 +165,7 @@ head-in s at =
     pick-cases P (eqb (oct s at % 16 / 8) 1)
     (λ _. context-in s at (oct s at % 8) n p (h .0) (h .1) (h .2))
     (λ c. application-in s at (oct s at % 8) n p (h .0) (h .1) (h .2)
-    (λ one. boolean-bits (oct s at) (eqb-false (oct s at % 16 / 8) 1 c) (h .3 (omega arith) ∙ one) w))) (λ _. tt)))
+    (λ one. boolean-bits (oct s at) (eqb-false (oct s at % 16 / 8) 1 c) (h .3 (omega arith) ∙ one) w))) (λ _ _. tt)))
   where
     P : Tag → Type 0
     P = TagIn s at

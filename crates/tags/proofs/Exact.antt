@@ -210,7 +210,7 @@ module _ (s : List ℕ) (os : Octets s) (at : ℕ) where
       pick-cases Sound (ltb (length s - q) v) (λ _ g. absurd g) (λ h2 _.
       let within : q + v ≤ length s = omega (arith, ltb-false) in
       let r = context-has s at n p v q (take v (drop q s)) bit w z (cut q v within) (has-take s q v within) in
-      (context n (take v (drop q s)), (w .small, rw (cut q v within) (z .small)), r .0, r .1)))) (λ _ g. absurd g)))
+      (context n (take v (drop q s)), (w .small, rw (cut q v within) (z .small)), r .0, r .1)))) (λ _ _ g. absurd g)))
 
   application-sound : (n p : ℕ) → NumberHas s at n p → (oct s at % 16 / 8 ≡ 1 → ⊥) → ltb 0 (firstRule (oct s at)) ≡ false → Sound (applicationAt s (oct s at % 8) n p)
   unfolding applicationAt encode tagOf tagLength
@@ -228,7 +228,7 @@ module _ (s : List ℕ) (os : Octets s) (at : ℕ) where
       pick-cases Sound (ltb (most n) v) (λ _ g. absurd g) (λ h2.
       pick-cases Sound (ltb 0 (contentsAt s q n v)) (λ _ g. absurd g) (λ h3 _.
       let within : q + v ≤ length s = contents-in s q v (omega (arith, has-bound s p (lengthOctets v) (z .octets))) n h3 in
-      judged n p v q (take v (drop q s)) w z known bit (eqb-false n 1 e1) (cut q v within) (has-take s q v within) h1 h2 h3)))) (λ _ g. absurd g)))
+      judged n p v q (take v (drop q s)) w z known bit (eqb-false n 1 e1) (cut q v within) (has-take s q v within) h1 h2 h3)))) (λ _ _ g. absurd g)))
     where
       judged : (n p v q : ℕ) (xs : List ℕ) → NumberHas s at n p → LengthHas s p (oct s at % 8) v q → n ≤ 12 → (oct s at % 16 / 8 ≡ 1 → ⊥) → (n ≡ 1 → ⊥) → length xs ≡ v → Has s q xs
           → ltb v (least n) ≡ false → ltb (most n) v ≡ false → ltb 0 (contentsAt s q n v) ≡ false → Stands s at (Item 0 n 0 q v)
@@ -248,4 +248,4 @@ module _ (s : List ℕ) (os : Octets s) (at : ℕ) where
       and-then Sound (NumberStands s at) (numberAt s at) (number-sound s os at) (λ n p w.
       pick-cases Sound (eqb (oct s at % 16 / 8) 1)
       (λ e. context-sound n p w (eqb-true (oct s at % 16 / 8) 1 e))
-      (λ e. application-sound n p w (eqb-false (oct s at % 16 / 8) 1 e) first)) (λ _ g. absurd g)))
+      (λ e. application-sound n p w (eqb-false (oct s at % 16 / 8) 1 e) first)) (λ _ _ g. absurd g)))

@@ -5,3 +5,8 @@ pub mod Exact
 pub mod Octets
 pub mod Integers
 pub mod Worked
+pub mod Refusals
+pub mod NumberRows
+pub mod LengthRows
+pub mod ContentsRows
+pub mod Rows

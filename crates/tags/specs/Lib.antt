@@ -3,3 +3,4 @@ pub mod Head
 pub mod Layout
 pub mod Decide
 pub mod Signed
+pub mod Rows
