@@ -1,4 +1,4 @@
-use Rattle.apdu.specs.Laws.{header-length}
+use Rattle.apdu.proofs.Headers.{header-length}
 use Rattle.octets.specs.Laid.{laid-fault, laid-short, laid-over, laid-as}
 use mathlib.Core.Path.{refl, sym, _∙_}
 use native.Mathlib.Omega.{arith}
