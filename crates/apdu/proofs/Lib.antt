@@ -10,3 +10,4 @@ pub mod Offences
 pub mod LeftToRight
 pub mod Rows
 pub mod FirstFault
+pub mod Cases
