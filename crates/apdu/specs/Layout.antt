@@ -1,10 +1,10 @@
--- What an APDU header is, apart from any reading: its layout and its rules (clause 20.1).
-use Prim.Native.Nat.{ℕ, _+_, _*_, _≤_}
-use mathlib.Core.Path.{_≡_}
-use mathlib.Core.Bool.{Bool, true, false}
+-- What an APDU header is, apart from any reading: its layout (clause 20.1).
+use Prim.Native.Nat.{ℕ, _+_, _*_}
+use mathlib.Core.Bool.{Bool, false}
 use mathlib.Core.List.{List, [], _∷_, _++_}
 use Rattle.octets.specs.Choice.{given}
 use Rattle.apdu.specs.declared.Segment.{Segment}
+use Rattle.apdu.specs.declared.RequestPdu.{RequestPdu}
 use Rattle.apdu.specs.declared.Pdu.{Pdu}
 use Rattle.apdu.specs.declared.Pdu.the-variants.{Request, Unconfirmed, SimpleAck, ComplexAck, SegmentAck, Error, Reject, Abort}
 
@@ -20,13 +20,17 @@ flag b = given b 1 0
 unfoldable pub firstOctet : ℕ → Bool → Bool → Bool → Bool → ℕ
 firstOctet kind b3 b2 b1 b0 = kind * 16 + flag b3 * 8 + flag b2 * 4 + flag b1 * 2 + flag b0
 
+-- "octet 2 the size code 0 to 5, upper four bits zero" of a confirmed request
+abbrev pub sizeOctet : RequestPdu → ℕ
+sizeOctet p = p .size
+
 -- "if SEG, number and window; choice"
 unfoldable pub tail : Segment → ℕ → List ℕ
 tail g choice = given (g .seg) (g .number ∷ g .window ∷ choice ∷ []) (choice ∷ [])
 
 -- The layout of each kind. "Other low bits are zero".
 abbrev pub header : Pdu → List ℕ
-header (Request p) = firstOctet 0 (p .segment .seg) (p .segment .mor) (p .sa) false ∷ p .size ∷ p .invoke ∷ tail (p .segment) (p .choice)
+header (Request p) = firstOctet 0 (p .segment .seg) (p .segment .mor) (p .sa) false ∷ sizeOctet p ∷ p .invoke ∷ tail (p .segment) (p .choice)
 header (Unconfirmed p) = firstOctet 1 false false false false ∷ p .choice ∷ []
 header (SimpleAck p) = firstOctet 2 false false false false ∷ p .invoke ∷ p .choice ∷ []
 header (ComplexAck p) = firstOctet 3 (p .segment .seg) (p .segment .mor) false false ∷ p .invoke ∷ tail (p .segment) (p .choice)
@@ -35,38 +39,6 @@ header (Error p) = firstOctet 5 false false false false ∷ p .invoke ∷ p .cho
 header (Reject p) = firstOctet 6 false false false false ∷ p .invoke ∷ p .reason ∷ []
 header (Abort p) = firstOctet 7 false false false (p .srv) ∷ p .invoke ∷ p .reason ∷ []
 
--- "windows are 1 to 127"
-abbrev pub Window : ℕ → Type 0
-Window w = (1 ≤ w) × (w ≤ 127)
-
--- "MOR needs SEG; windows are 1 to 127", "fields of an absent part are read as 0"
-pub record SegmentRules (g : Segment) : Type 0 where
-  pub more : g .mor ≡ true → g .seg ≡ true
-  pub window : g .seg ≡ true → Window (g .window)
-  pub absent : g .seg ≡ false → (g .number ≡ 0) × (g .window ≡ 0)
-
--- The rules of each kind: "the size code 0 to 5", and those of segments and windows.
-abbrev pub Rules : Pdu → Type 0
-Rules (Request p) = (p .size ≤ 5) × SegmentRules (p .segment)
-Rules (Unconfirmed p) = Unit {0}
-Rules (SimpleAck p) = Unit {0}
-Rules (ComplexAck p) = SegmentRules (p .segment)
-Rules (SegmentAck p) = Window (p .window)
-Rules (Error p) = Unit {0}
-Rules (Reject p) = Unit {0}
-Rules (Abort p) = Unit {0}
-
--- What may follow the header: parameters, or for types 2, 4, 6 and 7 nothing.
-abbrev pub Follows : Pdu → List ℕ → Type 0
-Follows (Request p) t = Unit {0}
-Follows (Unconfirmed p) t = Unit {0}
-Follows (SimpleAck p) t = t ≡ []
-Follows (ComplexAck p) t = Unit {0}
-Follows (SegmentAck p) t = t ≡ []
-Follows (Error p) t = Unit {0}
-Follows (Reject p) t = t ≡ []
-Follows (Abort p) t = t ≡ []
-
 -- An APDU: a PDU with its parameters.
 pub record Apdu : Type 0 where
   pub pdu : Pdu
@@ -74,6 +46,3 @@ pub record Apdu : Type 0 where
 
 abbrev pub encode : Apdu → List ℕ
 encode a = header (a .pdu) ++ a .parameters
-
-abbrev pub Valid : Apdu → Type 0
-Valid a = Rules (a .pdu) × Follows (a .pdu) (a .parameters)

@@ -1,9 +1,6 @@
-pub mod Reading
-pub mod Fields
 pub mod Layout
-pub mod FirstOctet
-pub mod Sound
-pub mod Complete
-pub mod Writing
-pub mod Shown
-pub mod Laws
+pub mod Fields
+pub mod Valid
+pub mod Reading
+pub mod Fault
+pub mod Rows

@@ -2,9 +2,10 @@
 -- 20 ends early; 21 type 8-15; 22 zero bit set or MOR without SEG; 23 size code or window; 24 octets left over.
 -- An octet that no rule judges is reached with the next one that is read.
 use Prim.Native.Nat.{ℕ, _+_, _/_, _%_}
+use mathlib.Core.Path.{_≡_}
 use mathlib.Core.List.{List}
 use mathlib.Core.Bool.{Bool, true, false}
-use lib.ListN.{length}
+use lib.ListN.{length, drop}
 use lib.Dec.{ltb, eqb}
 use Rattle.octets.specs.Choice.{pick}
 use Rattle.octets.specs.Reading.{oct, reach, refuse}
@@ -15,6 +16,8 @@ use Rattle.apdu.specs.declared.Answer.{Answer}
 use Rattle.apdu.specs.declared.Answer.the-variants.{Good, Refused}
 use Rattle.apdu.specs.declared.kinds.Tail.{Tail}
 use Rattle.apdu.specs.declared.kinds.Tail.the-variants.{Part, Broken}
+use Rattle.apdu.specs.Fields.{paramsAt}
+use Rattle.apdu.specs.Layout.{Apdu}
 
 -- bits 3 to 0 of a first octet
 abbrev pub bit3 : ℕ → Bool
@@ -139,3 +142,7 @@ readApdu s =
     (pick (eqb (oct s 0 / 16) 6) (readReject s)
     (pick (eqb (oct s 0 / 16) 7) (readAbort s)
     (Refused 21)))))))))
+
+-- the reading of the octets gives this PDU and these parameters
+abbrev pub Reads : List ℕ → Apdu → Type 0
+Reads s a = (readApdu s ≡ Good (a .pdu)) × (drop (paramsAt (a .pdu)) s ≡ a .parameters)

@@ -4,7 +4,7 @@ use apdu::Pdu;
 use apdu::RequestPdu;
 use apdu::Segment;
 ghost use mathlib.Core.Path.{_≡_};
-ghost use Rattle.apdu.specs.Writing.{morFault, windowFault, segmentFault, faultOf};
+ghost use Rattle.apdu.specs.Fault.{morFault, windowFault, segmentFault, faultOf};
 ghost use Rattle.apdu.specs.declared.Pdu.the-variants.{Request, ComplexAck};
 
 // MOR needs SEG.

@@ -1,16 +1,14 @@
 // APDU headers (clause 20.1), written into a lent area. The caller lays the parameters after the header.
 use apdu::Pdu;
 use octets::Written;
-ghost use Rattle.octets.specs.Laid.{Laid};
-ghost use Rattle.apdu.specs.Layout.{header};
-ghost use Rattle.apdu.specs.Writing.{faultOf};
+ghost use Rattle.apdu_writer.specs.Writing.{Writes};
 
 mod faults; // faults.rt: the first field that breaks a rule
 mod layouts; // layouts.rt: the octets of each kind
 
 // The header of a PDU at the area's front: the octets written, or the number of the refusal.
 pub fn write(p: Pdu, out: &mut [u8]) -> Written
-    ensures { λ r. ⌜ Laid (faultOf p) (header p) (now (out .entry)) r (now (out .exit)) ⌝ }
+    ensures { λ r. ⌜ Writes p (now (out .entry)) r (now (out .exit)) ⌝ }
 {
     let fault = faults::fault_of(p);
     if fault != 0 {

@@ -9,3 +9,4 @@ pub mod Two
 pub mod Three
 pub mod Worked
 pub mod Contracts
+pub mod HeaderRows

@@ -25,8 +25,8 @@ use Rattle.reader.specs.declared.Step.{Step}
 use Rattle.npdu.specs.Fault.{partRules, partFault, sooner, faultOf}
 use Rattle.npdu.specs.Read.{readNpdu, refusedBy}
 use Rattle.npdu.proofs.Outcome as Network
-use Rattle.apdu.specs.Laws as Header
-use Rattle.apdu.specs.Writing as HeaderFault
+use Rattle.apdu.proofs.Exact as Header
+use Rattle.apdu.specs.Fault as HeaderFault
 use Rattle.apdu.specs.declared.Segment.{Segment}
 use Rattle.apdu.specs.declared.Pdu.the-variants.{Request, Unconfirmed, SimpleAck, ComplexAck, SegmentAck, Error, Reject, Abort}
 use Rattle.demands.specs.Words.{Between}

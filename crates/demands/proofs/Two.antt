@@ -17,8 +17,8 @@ use Rattle.npdu.specs.Read.{readNpdu}
 use Rattle.npdu.proofs.Exact.{npdu-exactly}
 use Rattle.npdu.proofs.Outcome.{next-within}
 use Rattle.npdu.proofs.Written as NetworkWritten
-use Rattle.apdu.specs.Laws.{exact}
-use Rattle.apdu_writer.specs.Trips.{write-read, read-write}
+use Rattle.apdu.proofs.Exact.{exact}
+use Rattle.apdu_writer.proofs.Trips.{write-read, read-write}
 use Rattle.tags.proofs.Exact.{head-sound, head-complete}
 use Rattle.items.specs.Grammar.{encodeAll}
 use Rattle.items.proofs.Exact as Items

@@ -36,8 +36,9 @@ use Rattle.apdu.specs.declared.Answer as Apdu
 use Rattle.apdu.specs.Reading.{readApdu}
 use Rattle.apdu.specs.Fields.{paramsAt}
 use Rattle.apdu.specs.Layout as Header
-use Rattle.apdu.specs.Writing as HeaderFault
-use Rattle.apdu.specs.Laws as HeaderRead
+use Rattle.apdu.specs.Valid as HeaderRules
+use Rattle.apdu.specs.Fault as HeaderFault
+use Rattle.apdu.specs.Reading as HeaderRead
 use Rattle.tags.specs.Types.{longest}
 use Rattle.tags.specs.Head.{headAt}
 use Rattle.tags.specs.Layout as Tags
@@ -301,14 +302,14 @@ NetworkReadsBack = (h : Npdu) (n : ℕ) (area later : List ℕ) → Network.Kept
 
 -- ---- the eight APDU headers, each with its parameters
 abbrev pub HeadersExact : Type 0
-HeadersExact = Exactly HeaderRead.Reads Header.Valid Header.encode
+HeadersExact = Exactly HeaderRead.Reads HeaderRules.Valid Header.encode
 
 abbrev pub HeadersWriteBack : Type 0
 HeadersWriteBack = (s area later : List ℕ) (p : Pdu) (r : Written) → readApdu s ≡ Apdu.Answer.Good p → paramsAt p ≤ length area
     → Laid (HeaderFault.faultOf p) (Header.header p) area r later → (r ≡ Wrote (paramsAt p)) × (later ≡ take (paramsAt p) s ++ drop (paramsAt p) area)
 
 abbrev pub HeadersReadBack : Type 0
-HeadersReadBack = (p : Pdu) (n : ℕ) (area later t : List ℕ) → Laid (HeaderFault.faultOf p) (Header.header p) area (Wrote n) later → Header.Follows p t
+HeadersReadBack = (p : Pdu) (n : ℕ) (area later t : List ℕ) → Laid (HeaderFault.faultOf p) (Header.header p) area (Wrote n) later → HeaderRules.Follows p t
     → readApdu (take n later ++ t) ≡ Apdu.Answer.Good (HeaderFault.shown p)
 
 -- ---- tags: one tag with its contents is read at a place exactly when an item that keeps the rules stands there

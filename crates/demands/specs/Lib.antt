@@ -1,3 +1,4 @@
 pub mod Words
 pub mod Demands
 pub mod Contracts
+pub mod HeaderRows

@@ -11,7 +11,7 @@ use Rattle.npdu.specs.Fault as Npdu
 use Rattle.npdu.specs.declared.Reading.{Reading}
 use Rattle.apdu.specs.Fields.{paramsAt}
 use Rattle.apdu.specs.Reading.{readApdu}
-use Rattle.apdu.specs.Writing as Apdu
+use Rattle.apdu.specs.Fault as Apdu
 use Rattle.apdu.specs.declared.Pdu.{Pdu}
 use Rattle.apdu.specs.declared.Answer.{Answer}
 use Rattle.apdu.specs.declared.Answer.the-variants.{Good, Refused}

@@ -19,10 +19,12 @@ use Rattle.npdu.proofs.Exact.{head-sound, reads-shown, reads-written}
 use Rattle.npdu.proofs.Sizes.{fault-none}
 use Rattle.npdu.proofs.Written.{ruled-fine}
 use Rattle.apdu.specs.Fields.{paramsAt}
-use Rattle.apdu.specs.Layout.{header, Follows}
-use Rattle.apdu.specs.Laws.{header-length, written-reads-back, read-writes-back}
+use Rattle.apdu.specs.Layout.{header}
+use Rattle.apdu.specs.Valid.{Follows}
+use Rattle.apdu.proofs.Exact.{written-reads-back, read-writes-back}
+use Rattle.apdu.proofs.Headers.{header-length}
 use Rattle.apdu.specs.Reading.{readApdu}
-use Rattle.apdu.specs.Writing as Apdu
+use Rattle.apdu.specs.Fault as Apdu
 use Rattle.apdu.specs.declared.Pdu.{Pdu}
 use Rattle.apdu.specs.declared.Answer.the-variants.{Good}
 use Rattle.services.specs.Reading.{readService}

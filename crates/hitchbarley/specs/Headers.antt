@@ -8,7 +8,7 @@ use Rattle.octets.specs.Choice.{pick}
 use Rattle.octets.specs.Reading.{oct}
 use Rattle.npdu.specs.Fault as Npdu
 use Rattle.apdu.specs.Fields.{paramsAt}
-use Rattle.apdu.specs.Writing as Apdu
+use Rattle.apdu.specs.Fault as Apdu
 use Rattle.apdu.specs.declared.Answer.{Answer}
 use Rattle.apdu.specs.declared.Answer.the-variants.{Good, Refused}
 use Rattle.records.specs.Network.{npduSize, npduAt}

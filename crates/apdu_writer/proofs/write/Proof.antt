@@ -1,6 +1,6 @@
-use Rattle.apdu.specs.Laws.{header-length}
+use Rattle.apdu.proofs.Headers.{header-length}
 use Rattle.octets.specs.Laid.{laid-fault, laid-short, laid-over, laid-as}
-use mathlib.Core.Path.{refl, sym, _∙_}
+use mathlib.Core.Path.{refl}
 use native.Mathlib.Omega.{arith}
 use borrow.Author.Needs.{needs}
 use Rattle.apdu_writer.proofs.write.Statement.{statement}
@@ -13,7 +13,7 @@ write-spec =
     (λ c κs. search needs)
     (λ c. rw (← c .before .fault-of .ensures) (laid-fault _ _ _ (c .if1 .taken)))
     (λ c κs. search needs)
-    (λ c. laid-as {f = 0} (omega arith) refl (laid-short _ _ (rw (header-length (c .before .before .before .before .before .args .p)) (omega arith))))
-    (λ c κs. rw (header-length (c .before .before .before .before .before .before .args .p)) (omega arith))
+    (λ c. laid-as {f = 0} (omega arith) refl (laid-short _ _ (rw header-length (omega arith))))
+    (λ c κs. rw header-length (omega arith))
     (λ c. search needs)
-    (λ c. laid-over _ _ _ _ _ (omega arith) (c .before .before .before .before .before .params-at .ensures ∙ sym (header-length (c .before .before .before .before .before .before .before .before .before .args .p))) (rw (header-length (c .before .before .before .before .before .before .before .before .before .args .p)) (omega arith)) (c .before .before .put-header .ensures)))
+    (λ c. laid-over _ _ _ _ _ (omega arith) (rw header-length (search needs)) (rw header-length (omega arith)) (search needs)))

@@ -1,5 +1,5 @@
 use borrow.Author.Needs.{needs}
-use Rattle.apdu.specs.Writing.{morFault}
+use Rattle.apdu.specs.Fault.{morFault}
 use Rattle.octets.specs.Rules.{tests, flags}
 use Rattle.apdu_writer.proofs.faults.mor_fault.Statement.{statement}
 use Rattle.apdu_writer.proofs.faults.mor_fault.Tie as tie

@@ -1,5 +1,5 @@
 use Rattle.octets.specs.Rules.{tests}
-use Rattle.apdu.specs.Writing.{sizeFault}
+use Rattle.apdu.specs.Fault.{sizeFault}
 use borrow.Author.Needs.{needs}
 use Rattle.apdu_writer.proofs.faults.request_fault.Statement.{statement}
 use Rattle.apdu_writer.proofs.faults.request_fault.Tie as tie

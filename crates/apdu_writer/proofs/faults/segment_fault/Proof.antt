@@ -1,4 +1,4 @@
-use Rattle.apdu.specs.Writing.{segmentFault}
+use Rattle.apdu.specs.Fault.{segmentFault}
 use Rattle.octets.specs.Rules.{tests, flags}
 use borrow.Author.Needs.{needs}
 use Rattle.apdu_writer.proofs.faults.segment_fault.Statement.{statement}

@@ -1,5 +1,5 @@
 use borrow.Author.Needs.{needs}
-use Rattle.apdu.specs.Writing.{windowFault}
+use Rattle.apdu.specs.Fault.{windowFault}
 use Rattle.octets.specs.Rules.{tests}
 use Rattle.apdu_writer.proofs.faults.window_fault.Statement.{statement}
 use Rattle.apdu_writer.proofs.faults.window_fault.Tie as tie

@@ -20,4 +20,4 @@ first-octet-spec =
     (λ c. search needs)
     (λ c κs. search needs)
     (λ c. search needs)
-    (λ c. rw (← c .flag-of4 .ensures .0, ← c .before .flag-of3 .ensures .0, ← c .before .before .flag-of2 .ensures .0, ← c .before .before .before .flag-of .ensures .0)))
+    (λ c. cc))

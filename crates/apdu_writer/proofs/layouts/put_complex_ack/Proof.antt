@@ -13,4 +13,4 @@ put-complex-ack-spec =
     (λ c κs. search needs)
     (λ c κs. search needs)
     (λ c. search needs)
-    (λ c. splice-then _ 0 (_ ∷ _ ∷ []) _ (omega arith) (rw (← c .before .before .before .before .before .before .before .first-octet .ensures) (c .before .before .before .before .before .before .put-two .ensures)) (c .before .before .put-tail .ensures)))
+    (λ c. splice-then _ 0 (_ ∷ _ ∷ []) _ (omega arith) (cc) (c .before .before .put-tail .ensures)))

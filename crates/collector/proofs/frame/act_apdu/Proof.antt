@@ -3,7 +3,7 @@ use Rattle.collector.proofs.Content.{apdu-good, apdu-refused}
 use Rattle.collector.specs.Acting.{acting}
 use Rattle.collector.specs.Frame.{Content}
 use Rattle.rebuild.specs.View.{view}
-use Rattle.apdu.specs.Laws.{params-within}
+use Rattle.apdu.proofs.Exact.{params-within}
 use Rattle.apdu.specs.declared.Segment.{Segment}
 use mathlib.Core.Path.{refl, sym, ap, _∙_}
 use denote.Ref.{now}

@@ -1,5 +1,5 @@
 use Rattle.apdu.specs.Layout.{header}
-use Rattle.apdu.specs.Writing.{faultOf}
+use Rattle.apdu.specs.Fault.{faultOf}
 use native.Mathlib.Omega.{arith}
 use Rattle.hitchbarley.proofs.Headers.{apdu-other, apdu-beyond, apdu-sized}
 use Rattle.hitchbarley.proofs.Answered.{writes-not, writes-value}

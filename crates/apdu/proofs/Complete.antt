@@ -25,8 +25,9 @@ use Rattle.apdu.specs.declared.Pdu.the-variants.{Request, Unconfirmed, S
 use Rattle.apdu.specs.declared.Answer.the-variants.{Good}
 use Rattle.apdu.specs.declared.kinds.Tail.the-variants.{Part}
 use Rattle.apdu.specs.Reading.{readApdu, readTail, readRequest, readUnconfirmed, readSimpleAck, readComplexAck, readSegmentAck, readError, readReject, readAbort, bit3, bit2}
-use Rattle.apdu.specs.Layout.{segment, flag, firstOctet, tail, header, SegmentRules, Rules, Follows}
-use Rattle.apdu.specs.FirstOctet.{parts-of, below3, below2, below1, below0, mor-with-seg}
+use Rattle.apdu.specs.Layout.{segment, flag, firstOctet, tail, header}
+use Rattle.apdu.specs.Valid.{SegmentRules, Rules, Follows}
+use Rattle.apdu.proofs.FirstOctet.{parts-of, below3, below2, below1, below0, mor-with-seg}
 
 -- the octets of o are there, whatever follows
 there : (o t : List ℕ) (k : ℕ) → k < length o → leb (length (o ++ t)) k ≡ false

@@ -10,8 +10,9 @@ use Rattle.octets.specs.Choice.{given, pick-not, by-test}
 use Rattle.apdu.specs.declared.Segment.{Segment}
 use Rattle.apdu.specs.declared.Pdu.{Pdu}
 use Rattle.apdu.specs.declared.Pdu.the-variants.{Request, Unconfirmed, SimpleAck, ComplexAck, SegmentAck, Error, Reject, Abort}
-use Rattle.apdu.specs.Layout.{segment, tail, header, Window, SegmentRules, Rules, Follows}
-use Rattle.apdu.specs.Writing.{morFault, windowFault, segmentFault, sizeFault, orElse, faultOf, shownSegment, shown}
+use Rattle.apdu.specs.Layout.{segment, tail, header}
+use Rattle.apdu.specs.Valid.{Window, SegmentRules, Rules, Follows}
+use Rattle.apdu.specs.Fault.{morFault, windowFault, segmentFault, sizeFault, orElse, faultOf, shownSegment, shown}
 
 -- no fault, and the rule that it judges, both ways
 window-rule : (w : ℕ) → windowFault w ≡ 0 → Window w
@@ -21,7 +22,7 @@ window-rule w e =
     let b = pick-not (ltb 127 w) 23 0 0 (λ d. omega arith) (a .1) in
     (omega (arith, eqb-false w 0 (a .0)), ltb-false 127 w (b .0))
 
-window-fine : (w : ℕ) → Window w → windowFault w ≡ 0
+pub window-fine : (w : ℕ) → Window w → windowFault w ≡ 0
 unfolding windowFault
 window-fine w h = simp (ne-eqb w 0 (λ e. omega arith), le-ltb 127 w (h .1))
 
@@ -29,7 +30,7 @@ size-rule : (x : ℕ) → sizeFault x ≡ 0 → x ≤ 5
 unfolding sizeFault
 size-rule x e = ltb-false 5 x (pick-not (ltb 5 x) 23 0 0 (λ d. omega arith) e .0)
 
-size-fine : (x : ℕ) → x ≤ 5 → sizeFault x ≡ 0
+pub size-fine : (x : ℕ) → x ≤ 5 → sizeFault x ≡ 0
 unfolding sizeFault
 size-fine x h = simp (le-ltb 5 x h)
 

@@ -5,7 +5,7 @@ use mathlib.Core.Path.{_≡_, refl, sym, _∙_}
 use mathlib.Core.List.{List, _++_}
 use lib.ListN.{length, take, drop}
 use lib.Seq.{take-at}
-use Rattle.octets.specs.Laid.{Laid, laid-over, laid-one, laid-wrote}
+use Rattle.octets.specs.Laid.{laid-over, laid-one, laid-wrote}
 use Rattle.octets.specs.Splice.{splice-front}
 use Rattle.octets.specs.declared.Written.{Written}
 use Rattle.octets.specs.declared.Written.the-variants.{Wrote}
@@ -13,13 +13,12 @@ use Rattle.apdu.specs.declared.Pdu.{Pdu}
 use Rattle.apdu.specs.declared.Answer.the-variants.{Good}
 use Rattle.apdu.specs.Reading.{readApdu}
 use Rattle.apdu.specs.Fields.{paramsAt}
-use Rattle.apdu.specs.Layout.{header, Follows}
-use Rattle.apdu.specs.Writing.{faultOf, shown}
-use Rattle.apdu.specs.Laws.{header-length, written-reads-back, read-writes-back}
-
--- what the public writer promises of a PDU, an area, the answer and the area after it
-abbrev pub Writes : Pdu → List ℕ → Written → List ℕ → Type 0
-Writes p area r later = Laid (faultOf p) (header p) area r later
+use Rattle.apdu.specs.Layout.{header}
+use Rattle.apdu.specs.Valid.{Follows}
+use Rattle.apdu.specs.Fault.{faultOf, shown}
+use Rattle.apdu.proofs.Exact.{written-reads-back, read-writes-back}
+use Rattle.apdu.proofs.Headers.{header-length}
+use Rattle.apdu_writer.specs.Writing.{Writes}
 
 -- What was written, with parameters after it where the kind takes them, reads back as the same fields.
 pub write-read : (p : Pdu) (n : ℕ) (area later t : List ℕ) → Writes p area (Wrote n) later → Follows p t → readApdu (take n later ++ t) ≡ Good (shown p)

@@ -1,0 +1,13 @@
+pub mod FirstOctet
+pub mod Bits
+pub mod Headers
+pub mod Sound
+pub mod Complete
+pub mod Shown
+pub mod Exact
+pub mod Typed
+pub mod Offences
+pub mod LeftToRight
+pub mod Rows
+pub mod FirstFault
+pub mod Cases

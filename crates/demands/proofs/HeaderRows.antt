@@ -1,0 +1,58 @@
+-- The APDU headers' rows, from the laws of apdu.
+use mathlib.Core.Path.{refl}
+use Rattle.octets.specs.Choice.{given}
+use Rattle.apdu.specs.Reading.{readApdu, readTail, readRequest, readUnconfirmed, readSimpleAck, readComplexAck, readSegmentAck, readError, readReject, readAbort}
+use Rattle.apdu.specs.Fields.{tailEnd}
+use Rattle.apdu.specs.Layout.{flag, firstOctet, tail}
+use Rattle.apdu.specs.Fault.{morFault, windowFault, segmentFault, sizeFault}
+use Rattle.apdu.proofs.LeftToRight.{left-to-right}
+use Rattle.apdu.proofs.Rows.{row-20, row-21, row-22, row-23, row-24, one-outcome}
+use Rattle.apdu.proofs.FirstFault.{fault-22, fault-23, fault-none, fault-read}
+use Rattle.demands.specs.HeaderRows.{HeaderLeftToRight, HeaderEndsEarly, HeaderHighType, HeaderZeroBitSet, HeaderSizeOrWindow, HeaderLeftOver, HeaderOneOutcome, HeaderWriterExact, HeaderWriterAsRead, Whole, HeadersWorked}
+
+pub header-left-to-right : HeaderLeftToRight
+header-left-to-right = left-to-right
+
+pub header-ends-early : HeaderEndsEarly
+header-ends-early = row-20
+
+pub header-high-type : HeaderHighType
+header-high-type = row-21
+
+pub header-zero-bit-set : HeaderZeroBitSet
+header-zero-bit-set = row-22
+
+pub header-size-or-window : HeaderSizeOrWindow
+header-size-or-window = row-23
+
+pub header-left-over : HeaderLeftOver
+header-left-over = row-24
+
+pub header-one-outcome : HeaderOneOutcome
+header-one-outcome = one-outcome
+
+pub header-writer-exact : HeaderWriterExact
+header-writer-exact p = (fault-22 p, fault-23 p, fault-none p)
+
+pub header-writer-as-read : HeaderWriterAsRead
+header-writer-as-read = fault-read
+
+pub headers-worked : HeadersWorked
+unfolding readApdu readTail readRequest readUnconfirmed readSimpleAck readComplexAck readSegmentAck readError readReject readAbort tailEnd flag firstOctet tail morFault windowFault segmentFault sizeFault given
+headers-worked =
+    record {
+      request-more = record { read = refl; place = refl; fine = refl; laid = refl };
+      request-last = record { read = refl; place = refl; fine = refl; laid = refl };
+      request-whole = record { read = refl; place = refl; fine = refl; laid = refl };
+      unconfirmed = record { read = refl; place = refl; fine = refl; laid = refl };
+      simple-ack = record { read = refl; place = refl; fine = refl; laid = refl };
+      complex-ack-more = record { read = refl; place = refl; fine = refl; laid = refl };
+      complex-ack-last = record { read = refl; place = refl; fine = refl; laid = refl };
+      complex-ack-whole = record { read = refl; place = refl; fine = refl; laid = refl };
+      segment-ack-nak = record { read = refl; place = refl; fine = refl; laid = refl };
+      segment-ack-srv = record { read = refl; place = refl; fine = refl; laid = refl };
+      error = record { read = refl; place = refl; fine = refl; laid = refl };
+      reject = record { read = refl; place = refl; fine = refl; laid = refl };
+      abort-srv = record { read = refl; place = refl; fine = refl; laid = refl };
+      abort = record { read = refl; place = refl; fine = refl; laid = refl };
+    }
