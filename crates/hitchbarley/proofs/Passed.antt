@@ -3,7 +3,7 @@ use Prim.Native.Nat.{ℕ}
 use mathlib.Core.Path.{_≡_, sym, ap, _∙_}
 use mathlib.Core.Bool.{true}
 use mathlib.Core.List.{List, []}
-use lib.ListN.{length, take, drop}
+use lib.ListN.{length}
 use native.Mathlib.Omega.{arith}
 use borrow.Author.Tests.{eq-eqb, ne-eqb}
 use Rattle.octets.specs.Reading.{Octets}
@@ -21,7 +21,7 @@ use Rattle.collector.specs.declared.lent.Ate.{Ate}
 use Rattle.collector.specs.declared.lent.Hushed.{Hushed}
 use Rattle.collector.specs.declared.lent.Freed.{Freed}
 use Rattle.records.specs.Flag.{flag}
-use Rattle.state.specs.Layout.{stateOctets}
+use Rattle.state.specs.Layout.{stateSize, storePart, stateOctets}
 use Rattle.state.specs.Calls.{loadOf, liftOf}
 use Rattle.state.specs.declared.Lifted.{Lifted}
 use Rattle.state.proofs.Exact.{accepted-size, accepted-store}
@@ -54,19 +54,19 @@ area-of : {a b : Left} → a ≡ b → b .area ≡ a .area
 area-of e = sym (ap (λ (d : Left). d .area) e)
 
 -- what is lifted: link and slots by value, the store in its place
-pub lifted-holds : (state : List ℕ) → Octets state → {w : Lifted} → w ≡ liftOf state → w .refused ≡ 0 → Holds state (over (w .link) (w .slots) (take 501 (drop 9 state)))
+pub lifted-holds : (state : List ℕ) → Octets state → {w : Lifted} → w ≡ liftOf state → w .refused ≡ 0 → Holds state (over (w .link) (w .slots) (storePart state))
 unfolding liftOf
 lifted-holds state os e z =
     let y : loadOf state .refused ≡ 0 = rw e at z in
     rw (e, accepted-store state y) (accepted-holds state os y)
 
-lifted-inside : (state : List ℕ) {w : Lifted} → w ≡ liftOf state → w .refused ≡ 0 → over (w .link) (w .slots) (take 501 (drop 9 state)) ≡ inside state
+lifted-inside : (state : List ℕ) {w : Lifted} → w ≡ liftOf state → w .refused ≡ 0 → over (w .link) (w .slots) (storePart state) ≡ inside state
 unfolding liftOf
 lifted-inside state e z =
     let y : loadOf state .refused ≡ 0 = rw e at z in
     rw (e, accepted-store state y)
 
-pub lifted-size : (state : List ℕ) {w : Lifted} → w ≡ liftOf state → w .refused ≡ 0 → length state ≡ 546
+pub lifted-size : (state : List ℕ) {w : Lifted} → w ≡ liftOf state → w .refused ≡ 0 → length state ≡ stateSize
 unfolding liftOf
 lifted-size state e z = accepted-size state (rw e at z)
 
@@ -106,7 +106,7 @@ module _ (state report area piece : List ℕ) where
     pub feeds-not : (w .refused ≡ 0 → ⊥) → Feeds state report area piece (w .refused) 0 0 state report area
     feeds-not h = feeds-barred (w .refused) sizes h
 
-    pub feeds-on : w .refused ≡ 0 → {f : Ate} {t : Slots} {s state′ report′ area′ : List ℕ} → Eats (w .link) (w .slots) (take 501 (drop 9 state)) report area piece f s report′ area′
+    pub feeds-on : w .refused ≡ 0 → {f : Ate} {t : Slots} {s state′ report′ area′ : List ℕ} → Eats (w .link) (w .slots) (storePart state) report area piece f s report′ area′
         → f .slots ≡ t → Holds state′ (over (f .link) t s) → Feeds state report area piece (f .refused) (f .eaten) (flag (f .reported)) state′ report′ area′
     unfolding feedLeft
     feeds-on z {f} {t} {s} {state′} {report′} {area′} y g h =
@@ -147,10 +147,10 @@ module _ (state report : List ℕ) where
     stills-not h = stills-barred (w .refused) silence-sizes h
 
     pub stills-on : w .refused ≡ 0 → {f : Hushed} {state′ report′ : List ℕ} → Hushes (w .link) (w .slots) report f report′
-        → Holds state′ (over (f .link) (w .slots) (take 501 (drop 9 state))) → Stills state report (f .refused) (flag (f .reported)) state′ report′
+        → Holds state′ (over (f .link) (w .slots) (storePart state)) → Stills state report (f .refused) (flag (f .reported)) state′ report′
     unfolding silenceLeft
     stills-on z {f} {state′} {report′} y h =
-        let s = take 501 (drop 9 state) in
+        let s = storePart state in
         let d = stilling (inside state) report [] in
         let c : Collector = fellOver f (w .slots) s .state in
         let y′ : Calls.Stills (inside state) report (fellOver f (w .slots) s) report′ = rw (lifted-inside state e z) at (y s) in
@@ -177,11 +177,11 @@ module _ (state : List ℕ) (i : ℕ) (w : Lifted) (e : w ≡ liftOf state) wher
       let q : forgetLeft state i ≡ barred (w .refused) state [] [] = rw (forget-sizes, ne-eqb (w .refused) 0 h) in
       record { number = number-of q; stateAfter = state-of q; again = λ z. absurd (h (sym forget-sizes ∙ z)) }
 
-  pub forgets-on : w .refused ≡ 0 → {f : Freed} {state′ : List ℕ} → Frees (w .link) (w .slots) i f → Holds state′ (over (w .link) (f .slots) (take 501 (drop 9 state)))
+  pub forgets-on : w .refused ≡ 0 → {f : Freed} {state′ : List ℕ} → Frees (w .link) (w .slots) i f → Holds state′ (over (w .link) (f .slots) (storePart state))
       → Forgets state i (f .number) state′
   unfolding forgetLeft forgetNumberOf
   forgets-on z {f} {state′} y h =
-      let s = take 501 (drop 9 state) in
+      let s = storePart state in
       let y′ : Calls.Forgets (inside state) i (forgotOver f (w .link) s) = rw (lifted-inside state e z) at (y s) in
       let q : forgetLeft state i ≡ record { number = forgetNumberOf (inside state) i; eaten = 0; reported = 0; state = stateOctets (forgotten (inside state) i); report = []; area = [] } = rw (forget-sizes, z) in
       let c : Collector = forgotOver f (w .link) s .state in

@@ -50,7 +50,7 @@ passed n d report =
       area = d .area;
     }
 
--- "60, then 59": a lent area of another size than its own is 60; 546 octets that are no state's are 59
+-- "60, then 59": a lent area of another size than its own is 60; octets that are no state's are 59
 unfoldable pub bar : Bool → List ℕ → ℕ
 bar others state = pick others (loadOf state .refused) 60
 

@@ -1,4 +1,4 @@
-// One trunk: its state is 546 octets that the caller lends.
+// One trunk: its state is octets that the caller lends.
 use collector::Collector;
 use collector::lent;
 ghost use Rattle.collector.specs.Calls.{freshCollector};
@@ -40,7 +40,14 @@ pub extern "C" fn hb_feed(
     }
     let link = o.link;
     let slots = o.slots;
-    let f = lent::feed(link, slots, &mut state[9..510], piece, report, area);
+    let f = lent::feed(
+        link,
+        slots,
+        &mut state[state::STORE..state::STORE_END],
+        piece,
+        report,
+        area,
+    );
     let link = f.link;
     state::lay_link(link, state);
     *eaten = f.eaten;

@@ -2,34 +2,35 @@
 use Prim.Native.Nat.{ℕ}
 use native.Mathlib.Omega.{arith}
 use mathlib.Core.Path.{_≡_, ap, subst, _∙_}
+use mathlib.Core.Bool.{Bool, true, false}
 use mathlib.Core.List.{List}
 use lib.Dec.{eqb}
-use lib.ListN.{length, take, drop}
-use borrow.Author.Tests.{eq-eqb, eqb-true}
+use lib.ListN.{length}
+use borrow.Author.Tests.{eq-eqb, ne-eqb, eqb-true}
 use Rattle.octets.specs.Choice.{pick-so, by-test}
 use Rattle.octets.specs.Reading.{Octets}
-use Rattle.octets.specs.Has.{all-has}
 use Rattle.octets.specs.Exact.{Exactly}
+use Rattle.frames.specs.declared.Link.{Link}
+use Rattle.rebuild.specs.declared.Slots.{Slots}
 use Rattle.collector.specs.declared.Collector.{Collector}
 use Rattle.collector.specs.Calls.{freshCollector}
-use Rattle.state.specs.Layout.{stateSize, stateOctets, Fits}
-use Rattle.state.specs.Calls.{stateGood, stateAt, Loaded, loaded, loadOf, Loads}
-use Rattle.state.proofs.Parts.{Shaped, fits-shaped}
-use Rattle.state.proofs.Back.{state-back}
-use Rattle.state.proofs.Stands.{state-size, state-fits, state-stands}
+use Rattle.state.specs.declared.Lifted.{Lifted}
+use Rattle.state.specs.Link.{linkOf}
+use Rattle.state.specs.Layout.{stateSize, linkPart, storePart, stateOctets, Fits}
+use Rattle.state.specs.Calls.{stateGood, stateAt, Loaded, loaded, loadOf, Loads, liftedAs, liftOf}
+use Rattle.state.proofs.Whole.{Shaped, fits-shaped, state-size, state-back, state-fits, state-stands}
 
 -- the state's octets are loaded as it
 pub shaped-loads : (c : Collector) → Shaped c → Loads (stateOctets c) c
 unfolding loadOf
 shaped-loads c f =
-    let n = state-size c f in
-    let b = state-back (stateOctets c) c f (omega arith) (all-has (stateOctets c)) in
-    rw (eq-eqb (length (stateOctets c)) stateSize n, b .1, b .0)
+    let b = state-back c f in
+    rw (eq-eqb (length (stateOctets c)) stateSize (state-size c f), b .1, b .0)
 
 pub loads-back : (c : Collector) → Fits c → Loads (stateOctets c) c
 loads-back c f = shaped-loads c (fits-shaped f)
 
--- what was accepted: 546 octets that are a state's
+-- what was accepted: octets that are a state's
 refusing : (n : ℕ) (c : Collector) → (n ≡ 0 → ⊥) → loaded n freshCollector ≡ loaded 0 c → ⊥
 refusing n c h e = h (ap (λ (l : Loaded). l .refused) e)
 
@@ -38,7 +39,7 @@ unfolding loadOf
 loads-only o c os e =
     let a = pick-so (eqb (length o) stateSize) _ _ (loaded 0 c) (refusing 60 c (λ z. omega arith)) e in
     let b = pick-so (stateGood o) _ _ (loaded 0 c) (refusing 59 c (λ z. omega arith)) (a .1) in
-    let n : length o ≡ 546 = eqb-true (length o) stateSize (a .0) in
+    let n : length o ≡ stateSize = eqb-true (length o) stateSize (a .0) in
     let s : stateAt o ≡ c = ap (λ (l : Loaded). l .state) (b .1) in
     (subst Fits s (state-fits o os n (b .0)), state-stands o os n (b .0) ∙ ap stateOctets s)
 
@@ -49,8 +50,8 @@ state-exactly = record { sound = loads-only; complete = loads-back }
 pub accepted : (o : List ℕ) → loadOf o .refused ≡ 0 → Loads o (loadOf o .state)
 accepted o e = ap (λ (n : ℕ). loaded n (loadOf o .state)) e
 
--- its frame store stands in octets 9 to 509
-pub accepted-store : (o : List ℕ) → loadOf o .refused ≡ 0 → take 501 (drop 9 o) ≡ loadOf o .state .receiver .store
+-- its frame store stands in its place
+pub accepted-store : (o : List ℕ) → loadOf o .refused ≡ 0 → storePart o ≡ loadOf o .state .receiver .store
 unfolding loadOf stateAt
 accepted-store o e =
     by-test (eqb (length o) stateSize)
@@ -63,3 +64,20 @@ unfolding loadOf
 accepted-size o e =
     by-test (eqb (length o) stateSize) (eqb-true (length o) stateSize)
     (λ d. let z : _≡_ {A = ℕ} 60 0 = rw d at e in absurd (omega arith))
+
+-- ---- lifting, by the tests that are made: the area's size, and whether its octets are a state's (g)
+pub lifts-sixty : (o : List ℕ) (r : Lifted) → (length o ≡ stateSize → ⊥) → r ≡ liftedAs (loaded 60 freshCollector) → r ≡ liftOf o
+unfolding liftOf loadOf
+lifts-sixty o r n e = rw (ne-eqb (length o) stateSize n) e
+
+module _ (o : List ℕ) (size : length o ≡ stateSize) (g : Bool) (judged : g ≡ stateGood o) where
+  pub lifts-bad : (r : Lifted) → g ≡ false → r ≡ liftedAs (loaded 59 freshCollector) → r ≡ liftOf o
+  unfolding liftOf loadOf
+  lifts-bad r f e = rw (eq-eqb (length o) stateSize size, ← judged, f) e
+
+  pub lifts-good : (l : Link) (t : Slots) → g ≡ true → l ≡ linkOf (linkPart o) → t ≡ stateAt o .slots → record { refused = 0; link = l; slots = t } ≡ liftOf o
+  unfolding liftOf loadOf stateAt
+  lifts-good l t h e d = rw (eq-eqb (length o) stateSize size, ← judged, h, e, d)
+
+-- for `search (needs, lifts)`
+pub ruleset lifts = (lifts-sixty, lifts-bad, lifts-good)

@@ -1,6 +1,7 @@
 pub mod Parts
-pub mod Back
-pub mod Stands
+pub mod Link
+pub mod Slot
+pub mod Slots
+pub mod Whole
 pub mod Exact
-pub mod Values
 pub mod Places

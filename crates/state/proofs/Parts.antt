@@ -1,72 +1,67 @@
--- The parts of a state, laid one after the other.
-use Prim.Native.Nat.{ℕ, _+_}
+-- A part of an area, octet by octet, and parts put together again.
+use Prim.Native.Nat.{ℕ, zero, suc, _+_, _-_, _*_, _/_, _%_, _≤_, _<_}
 use native.Mathlib.Omega.{arith}
-use mathlib.Core.Path.{_≡_, refl, sym, _∙_}
-use mathlib.Core.List.{List, [], _∷_, _++_, append-assoc}
-use lib.ListN.{length, getD, length-append}
-use Rattle.octets.specs.Splice.{splice}
-use Rattle.frames.specs.declared.Phase.{Phase}
-use Rattle.frames.specs.declared.Phase.the-variants.{Hunting, Preamble, Header, Data}
-use Rattle.frames.specs.declared.Link.{Link}
-use Rattle.rebuild.specs.declared.Slot.{Slot}
-use Rattle.rebuild.specs.View.{freeSlot}
-use Rattle.collector.specs.declared.Collector.{Collector}
-use Rattle.state.specs.Layout.{phaseOctets, linkOctets, slotOctets, slotsOctets, stateOctets, Fits}
-use Rattle.records.proofs.Areas.{laid-whole, three-laid, four-laid}
+use mathlib.Core.Path.{_≡_, refl, sym, ap, _∙_}
+use mathlib.Core.Bool.{Bool, true, false}
+use mathlib.Core.List.{List, [], _∷_, _++_}
+use lib.ListN.{length, take, drop, length-drop, take-append-drop}
+use lib.Seq.{drop-cons, drop-drop, take-length, length-take-le}
+use Rattle.octets.specs.Choice.{both}
+use Rattle.octets.specs.Reading.{oct, Octets}
 
-pub phase-size : (p : Phase) → length (phaseOctets p) ≡ 3
-phase-size Hunting = refl
-phase-size Preamble = refl
-phase-size (Header got) = refl
-phase-size (Data got) = refl
+-- n octets from a place on
+abbrev pub run : List ℕ → ℕ → ℕ → List ℕ
+run s i zero = []
+run s i (suc n) = oct s i ∷ run s (suc i) n
 
-pub slots-size : (xs : List Slot) → length xs ≡ 4 → length (slotsOctets xs) ≡ 36
-slots-size [] h = absurd (omega arith)
-slots-size (a ∷ []) h = absurd (omega arith)
-slots-size (a ∷ b ∷ []) h = absurd (omega arith)
-slots-size (a ∷ b ∷ c ∷ []) h = absurd (omega arith)
-slots-size (a ∷ b ∷ c ∷ d ∷ []) h = refl
-slots-size (a ∷ b ∷ c ∷ d ∷ e ∷ f) h = absurd (omega arith)
+pub cut-run : (s : List ℕ) (n i : ℕ) → i + n ≤ length s → take n (drop i s) ≡ run s i n
+cut-run s zero i h = refl
+cut-run s (suc n) i h =
+    let b : i < length s = omega arith in
+    rw (drop-cons s i 0 b) (ap (λ (l : List ℕ). oct s i ∷ l) (cut-run s n (suc i) (omega arith)))
 
--- what every value of the types has: arrays of their sizes
-pub record Shaped (c : Collector) : Type 0 where
-  pub head : length (c .receiver .link .head) ≡ 5
-  pub store : length (c .receiver .store) ≡ 501
-  pub four : length (c .slots .slots) ≡ 4
+pub run-all : (s : List ℕ) (n : ℕ) → length s ≡ n → run s 0 n ≡ s
+run-all s n h = sym (cut-run s n 0 (omega arith)) ∙ rw (← h) (take-length s)
 
-pub fits-shaped : {c : Collector} → Fits c → Shaped c
-fits-shaped f = record { head = f .head; store = f .store; four = f .four }
+pub cut-size : (n at : ℕ) (o : List ℕ) → at + n ≤ length o → length (take n (drop at o)) ≡ n
+cut-size n at o h = length-take-le n (drop at o) (rw length-drop (omega arith))
 
-pub link-size : (l : Link) → length (l .head) ≡ 5 → length (linkOctets l) ≡ 9
-link-size l h = simp (length-append, phase-size (l .phase), h)
+-- a part that is cut out by place and end
+pub cut-by : {A : Type 0} (f : List ℕ → A) (o : List ℕ) (n : ℕ) {x : A} {at at′ : ℕ} → at ≡ at′ → x ≡ f (take (at + n - at) (drop at o)) → x ≡ f (take n (drop at′ o))
+cut-by f o n {x} {at} {at′} p e =
+    let m : at + n - at ≡ n = omega arith in
+    rw (← p) (rw m at e)
 
-pub three-size : (p q r : List ℕ) → length (p ++ (q ++ r)) ≡ length p + (length q + length r)
-three-size p q r = simp length-append
+-- a part, with what stands behind it
+pub cut-then : (o : List ℕ) (at n next : ℕ) → at + n ≡ next → take n (drop at o) ++ drop next o ≡ drop at o
+cut-then o at n next e =
+    let d : drop n (drop at o) ≡ drop next o = drop-drop n at o ∙ ap (λ (k : ℕ). drop k o) e in
+    rw (← d) (take-append-drop n (drop at o))
 
--- link, store, slots
-pub state-parts : (c : Collector) → stateOctets c ≡ linkOctets (c .receiver .link) ++ (c .receiver .store ++ slotsOctets (c .slots .slots))
-unfolding stateOctets
-state-parts c = simp append-assoc
+pub join : {a a′ b b′ : List ℕ} → a ≡ a′ → b ≡ b′ → a ++ b ≡ a′ ++ b′
+join p q = rw (p, q)
 
-pub slots-laid : (xs : List Slot) (area : List ℕ) {l₁ l₂ l₃ l₄ : List ℕ} → length xs ≡ 4
-    → l₁ ≡ splice area 510 (slotOctets (getD xs 0 freeSlot)) → l₂ ≡ splice l₁ 519 (slotOctets (getD xs 1 freeSlot))
-    → l₃ ≡ splice l₂ 528 (slotOctets (getD xs 2 freeSlot)) → l₄ ≡ splice l₃ 537 (slotOctets (getD xs 3 freeSlot))
-    → length area ≡ 546 → l₄ ≡ splice area 510 (slotsOctets xs)
-slots-laid [] area h e₁ e₂ e₃ e₄ k = absurd (omega arith)
-slots-laid (a ∷ []) area h e₁ e₂ e₃ e₄ k = absurd (omega arith)
-slots-laid (a ∷ b ∷ []) area h e₁ e₂ e₃ e₄ k = absurd (omega arith)
-slots-laid (a ∷ b ∷ c ∷ []) area h e₁ e₂ e₃ e₄ k = absurd (omega arith)
-slots-laid (a ∷ b ∷ c ∷ d ∷ []) area h e₁ e₂ e₃ e₄ k =
-    four-laid area 510 519 528 537 (slotOctets a) (slotOctets b) (slotOctets c) (slotOctets d) e₁ e₂ e₃ e₄ refl refl refl (omega arith)
-slots-laid (a ∷ b ∷ c ∷ d ∷ e ∷ f) area h e₁ e₂ e₃ e₄ k = absurd (omega arith)
+-- two octets of a number that was made of them
+module _ (s : List ℕ) (os : Octets s) where
+  pub high-octet : (i j : ℕ) → (oct s i * 256 + oct s j) / 256 ≡ oct s i
+  high-octet i j = let h = os j in omega arith
 
-pub state-laid : (c : Collector) (area : List ℕ) {l₁ l₂ l₃ : List ℕ} → l₁ ≡ splice area 0 (linkOctets (c .receiver .link)) → l₂ ≡ splice l₁ 9 (c .receiver .store)
-    → l₃ ≡ splice l₂ 510 (slotsOctets (c .slots .slots)) → length (linkOctets (c .receiver .link)) ≡ 9 → length (c .receiver .store) ≡ 501
-    → length (slotsOctets (c .slots .slots)) ≡ 36 → length area ≡ 546 → l₃ ≡ stateOctets c
-state-laid c area {l₁} {l₂} {l₃} e₁ e₂ e₃ h j k m =
-    let p = linkOctets (c .receiver .link) in
-    let q = c .receiver .store in
-    let r = slotsOctets (c .slots .slots) in
-    let s : l₃ ≡ splice area 0 (p ++ (q ++ r)) = three-laid area 0 9 510 p q r e₁ e₂ e₃ (omega arith) (omega arith) (omega arith) in
-    let n : length area ≡ length (p ++ (q ++ r)) = rw (three-size p q r, h, j, k) m in
-    laid-whole area (p ++ (q ++ r)) l₃ n s ∙ sym (state-parts c)
+  pub low-octet : (i j : ℕ) → (oct s i * 256 + oct s j) % 256 ≡ oct s j
+  low-octet i j = let h = os j in omega arith
+
+  pub pair-below : (i j : ℕ) → oct s i * 256 + oct s j < 65536
+  pair-below i j = let h = os i in let k = os j in omega arith
+
+-- tests made one after the other, until one fails: r is what a test says, and q what the rest does
+pub both-on : (a b r q : Bool) → r ≡ a → r ≡ true → q ≡ b → q ≡ both a b
+both-on a b r q e t h = rw (← e, t) h
+
+pub both-off : (a b r : Bool) → r ≡ a → r ≡ false → false ≡ both a b
+both-off a b r e f = rw (← e, f)
+
+pub both-last : (a r : Bool) → r ≡ a → r ≡ both a true
+both-last true r e = e
+both-last false r e = e
+
+-- for `search (needs, one-by-one)`
+pub ruleset one-by-one = (both-on, both-off, both-last)

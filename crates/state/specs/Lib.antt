@@ -1,2 +1,4 @@
+pub mod Link
+pub mod Slot
 pub mod Layout
 pub mod Calls

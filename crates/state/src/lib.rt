@@ -6,25 +6,49 @@ use collector::Collector;
 use frames::Link;
 use rebuild::Slots;
 ghost use mathlib.Core.Path.{_≡_};
-ghost use Rattle.state.specs.Layout.{linkOctets, slotsOctets};
+ghost use Prim.Native.Nat.{_<_};
+ghost use Rattle.collector.specs.Calls.{slotCount};
+ghost use Rattle.state.specs.Link.{linkSize, linkOctets};
+ghost use Rattle.state.specs.Layout.{slotsPlace, slotPlace, slotsSize, slotsOctets};
 ghost use Rattle.state.specs.Calls.{liftOf, Lays, Saves};
 
-// What lifting answers: 60, 59 or 0 with link and slots; the store stays in octets 9 to 509 of the area.
+// The octets of a link, in front; where the frame store stands and ends; where the slots stand, and the octets of each; the octets of a state.
+pub const LINK: usize = 9;
+
+pub const STORE: usize = LINK;
+
+pub const STORE_END: usize = STORE + 501;
+
+pub const SLOTS: usize = STORE_END;
+
+pub const SLOT: usize = 9;
+
+pub const SIZE: usize = SLOTS + SLOT * 4;
+
+// Where slot i stands, counted from 0.
+fn slot_place(i: usize) -> usize
+    requires { ⌜ i < slotCount ⌝ }
+    ensures { λ r. ⌜ r ≡ slotPlace i ⌝ }
+{
+    SLOTS + SLOT * i
+}
+
+// What lifting answers: 60, 59 or 0 with link and slots; the store stays in its place in the area.
 pub struct Lifted {
     pub refused: u8,
     pub link: Link,
     pub slots: Slots,
 }
 
-// The link and the slots that the area's 546 octets hold.
+// The link and the slots that an area's octets hold.
 pub fn lift(area: &[u8]) -> Lifted
     ensures { λ r. ⌜ r ≡ liftOf (now (area .entry)) ⌝ }
 {
-    if area.len() != 546 {
+    if area.len() != SIZE {
         return loading::refused(60);
     }
     if loading::state_good(area) {
-        let link = loading::link_at(area);
+        let link = loading::link_of(&area[0..LINK]);
         let slots = loading::slots_at(area);
         return Lifted {
             refused: 0,
@@ -35,33 +59,33 @@ pub fn lift(area: &[u8]) -> Lifted
     loading::refused(59)
 }
 
-// A link laid over the one in an area of 546; 60 and nothing changes in any other.
+// A link laid over the one in an area of a state's size; 60 and nothing changes in any other.
 pub fn lay_link(link: Link, area: &mut [u8]) -> u8
-    ensures { λ r. ⌜ Lays 0 9 (linkOctets link) (now (area .entry)) r (now (area .exit)) ⌝ }
+    ensures { λ r. ⌜ Lays 0 linkSize (linkOctets link) (now (area .entry)) r (now (area .exit)) ⌝ }
 {
-    if area.len() != 546 {
+    if area.len() != SIZE {
         return 60;
     }
     saving::put_link(link, area);
     0
 }
 
-// Slots laid over those in an area of 546; 60 and nothing changes in any other.
+// Slots laid over those in an area of a state's size; 60 and nothing changes in any other.
 pub fn lay_slots(slots: Slots, area: &mut [u8]) -> u8
-    ensures { λ r. ⌜ Lays 510 36 (slotsOctets (slots .slots)) (now (area .entry)) r (now (area .exit)) ⌝ }
+    ensures { λ r. ⌜ Lays slotsPlace slotsSize (slotsOctets (slots .slots)) (now (area .entry)) r (now (area .exit)) ⌝ }
 {
-    if area.len() != 546 {
+    if area.len() != SIZE {
         return 60;
     }
     saving::put_slots(slots, area);
     0
 }
 
-// The state's octets into an area of 546; 60 and nothing changes in any other.
+// The state's octets into an area of its size; 60 and nothing changes in any other.
 pub fn save(c: Collector, area: &mut [u8]) -> u8
     ensures { λ r. ⌜ Saves c (now (area .entry)) r (now (area .exit)) ⌝ }
 {
-    if area.len() != 546 {
+    if area.len() != SIZE {
         return 60;
     }
     saving::put_state(c, area);

@@ -1,15 +1,21 @@
 // The link and the slots that octets hold, and whether they are a state.
+use crate::LINK;
 use crate::Lifted;
+use crate::SLOT;
+use crate::slot_place;
 use frames::Link;
 use frames::Phase;
 use rebuild::Key;
 use rebuild::Slot;
 use rebuild::Slots;
 ghost use mathlib.Core.Path.{_≡_};
-ghost use Prim.Native.Nat.{_+_, _≤_};
+ghost use Prim.Native.Nat.{_<_};
 ghost use lib.ListN.{length, take, drop};
-ghost use Rattle.collector.specs.Calls.{freshCollector};
-ghost use Rattle.state.specs.Calls.{phaseGood, slotsGood, stateGood, phaseAt, slotAt, stateAt, loaded, liftedAs};
+ghost use Rattle.collector.specs.Calls.{freshCollector, slotCount};
+ghost use Rattle.state.specs.Link.{linkSize, phaseGood, linkGood, phaseAt, linkOf};
+ghost use Rattle.state.specs.Slot.{slotSize, slotGood, slotOf};
+ghost use Rattle.state.specs.Layout.{stateSize};
+ghost use Rattle.state.specs.Calls.{goodAt, slotsGood, stateGood, slotAt, stateAt, loaded, liftedAs};
 
 // A refusal, beside the fresh link and slots.
 pub fn refused(n: u8) -> Lifted
@@ -43,15 +49,41 @@ fn phase_good(p: u8, high: u8, low: u8) -> bool
     p == 3
 }
 
-// Each slot is used or not.
-fn slots_good(o: &[u8]) -> bool
-    requires { ⌜ length (now o) ≡ 546 ⌝ }
-    ensures { λ r. ⌜ r ≡ slotsGood (now (o .entry)) ⌝ }
+// Whether octets are a link's.
+fn link_good(s: &[u8]) -> bool
+    requires { ⌜ length (now s) ≡ linkSize ⌝ }
+    ensures { λ r. ⌜ r ≡ linkGood (now (s .entry)) ⌝ }
 {
-    if o[510] <= 1 {
-        if o[519] <= 1 {
-            if o[528] <= 1 {
-                return o[537] <= 1;
+    phase_good(s[0], s[1], s[2])
+}
+
+// Whether octets are a slot's.
+fn slot_good(s: &[u8]) -> bool
+    requires { ⌜ length (now s) ≡ slotSize ⌝ }
+    ensures { λ r. ⌜ r ≡ slotGood (now (s .entry)) ⌝ }
+{
+    s[0] <= 1
+}
+
+// Slot i by itself.
+fn good_at(o: &[u8], i: usize) -> bool
+    requires { ⌜ (length (now o) ≡ stateSize) × (i < slotCount) ⌝ }
+    ensures { λ r. ⌜ r ≡ goodAt (now (o .entry)) i ⌝ }
+{
+    let at = slot_place(i);
+    let end = at + SLOT;
+    slot_good(&o[at..end])
+}
+
+// All of them.
+fn slots_good(o: &[u8]) -> bool
+    requires { ⌜ length (now o) ≡ stateSize ⌝ }
+    ensures { λ r. ⌜ r ≡ slotsGood (now (o .entry)) 0 slotCount ⌝ }
+{
+    if good_at(o, 0) {
+        if good_at(o, 1) {
+            if good_at(o, 2) {
+                return good_at(o, 3);
             }
             return false;
         }
@@ -60,12 +92,12 @@ fn slots_good(o: &[u8]) -> bool
     false
 }
 
-// Whether 546 octets are a state's.
+// Whether octets are a state's.
 pub fn state_good(o: &[u8]) -> bool
-    requires { ⌜ length (now o) ≡ 546 ⌝ }
+    requires { ⌜ length (now o) ≡ stateSize ⌝ }
     ensures { λ r. ⌜ r ≡ stateGood (now (o .entry)) ⌝ }
 {
-    if phase_good(o[0], o[1], o[2]) {
+    if link_good(&o[0..LINK]) {
         return slots_good(o);
     }
     false
@@ -86,58 +118,64 @@ fn phase_at(p: u8, high: u8, low: u8) -> Phase
     Phase::Data(octets::pair(high, low))
 }
 
-fn head_at(o: &[u8]) -> [u8; 5]
-    requires { ⌜ length (now o) ≡ 546 ⌝ }
-    ensures { λ r. ⌜ r ≡ take 5 (drop 3 (now (o .entry))) ⌝ }
+fn head_of(s: &[u8]) -> [u8; 5]
+    requires { ⌜ length (now s) ≡ linkSize ⌝ }
+    ensures { λ r. ⌜ r ≡ take 5 (drop 3 (now (s .entry))) ⌝ }
 {
     let mut a = [0u8; 5];
-    octets::copy(&o[3..8], &mut a, 0);
+    octets::copy(&s[3..8], &mut a, 0);
     a
 }
 
-fn slot_at(o: &[u8], at: usize) -> Slot
-    requires { ⌜ at + 9 ≤ length (now o) ⌝ }
-    ensures { λ r. ⌜ r ≡ slotAt (now (o .entry)) at ⌝ }
+// The link that good octets hold.
+pub fn link_of(s: &[u8]) -> Link
+    requires { ⌜ length (now s) ≡ linkSize ⌝ }
+    ensures { λ r. ⌜ r ≡ linkOf (now (s .entry)) ⌝ }
+{
+    let h = head_of(s);
+    Link {
+        phase: phase_at(s[0], s[1], s[2]),
+        head: h,
+        first: s[8],
+    }
+}
+
+// The slot that good octets hold.
+fn slot_of(s: &[u8]) -> Slot
+    requires { ⌜ length (now s) ≡ slotSize ⌝ }
+    ensures { λ r. ⌜ r ≡ slotOf (now (s .entry)) ⌝ }
 {
     let k = Key {
-        source: o[at + 1],
-        destination: o[at + 2],
-        kind: o[at + 3],
-        invoke: o[at + 4],
+        source: s[1],
+        destination: s[2],
+        kind: s[3],
+        invoke: s[4],
     };
     Slot {
-        used: o[at] == 1,
+        used: s[0] == 1,
         key: k,
-        next: o[at + 5],
-        choice: o[at + 6],
-        held: octets::pair(o[at + 7], o[at + 8]),
+        next: s[5],
+        choice: s[6],
+        held: octets::pair(s[7], s[8]),
     }
 }
 
-// The link that 546 good octets hold.
-pub fn link_at(o: &[u8]) -> Link
-    requires { ⌜ length (now o) ≡ 546 ⌝ }
-    ensures { λ r. ⌜ r ≡ stateAt (now (o .entry)) .receiver .link ⌝ }
+// Slot i.
+fn slot_at(o: &[u8], i: usize) -> Slot
+    requires { ⌜ (length (now o) ≡ stateSize) × (i < slotCount) ⌝ }
+    ensures { λ r. ⌜ r ≡ slotAt (now (o .entry)) i ⌝ }
 {
-    let h = head_at(o);
-    Link {
-        phase: phase_at(o[0], o[1], o[2]),
-        head: h,
-        first: o[8],
-    }
+    let at = slot_place(i);
+    let end = at + SLOT;
+    slot_of(&o[at..end])
 }
 
-// The slots that 546 good octets hold.
+// The slots that a state's octets hold.
 pub fn slots_at(o: &[u8]) -> Slots
-    requires { ⌜ length (now o) ≡ 546 ⌝ }
+    requires { ⌜ length (now o) ≡ stateSize ⌝ }
     ensures { λ r. ⌜ r ≡ stateAt (now (o .entry)) .slots ⌝ }
 {
     Slots {
-        slots: [
-            slot_at(o, 510),
-            slot_at(o, 519),
-            slot_at(o, 528),
-            slot_at(o, 537),
-        ],
+        slots: [slot_at(o, 0), slot_at(o, 1), slot_at(o, 2), slot_at(o, 3)],
     }
 }

@@ -1,14 +1,20 @@
 // The octets of a state, laid into an area.
+use crate::SLOT;
+use crate::STORE;
+use crate::slot_place;
 use collector::Collector;
 use frames::Link;
 use frames::Phase;
 use rebuild::Slot;
 use rebuild::Slots;
 ghost use mathlib.Core.Path.{_≡_};
-ghost use Prim.Native.Nat.{_+_, _≤_};
+ghost use Prim.Native.Nat.{_<_};
 ghost use lib.ListN.{length};
 ghost use Rattle.octets.specs.Splice.{splice};
-ghost use Rattle.state.specs.Layout.{phaseOctets, linkOctets, slotOctets, slotsOctets, stateOctets};
+ghost use Rattle.collector.specs.Calls.{slotCount};
+ghost use Rattle.state.specs.Link.{phaseOctets, linkOctets};
+ghost use Rattle.state.specs.Slot.{slotOctets};
+ghost use Rattle.state.specs.Layout.{stateSize, slotsPlace, slotPlace, slotsOctets, stateOctets};
 
 // Phase and count.
 fn phase_octets(p: Phase) -> [u8; 3]
@@ -22,7 +28,7 @@ fn phase_octets(p: Phase) -> [u8; 3]
     }
 }
 
-fn slot_octets(x: Slot) -> [u8; 9]
+fn slot_octets(x: Slot) -> [u8; SLOT]
     ensures { λ r. ⌜ r ≡ slotOctets x ⌝ }
 {
     [
@@ -40,7 +46,7 @@ fn slot_octets(x: Slot) -> [u8; 9]
 
 // Phase, count, head and first check octet.
 pub fn put_link(l: Link, area: &mut [u8])
-    requires { ⌜ length (now area) ≡ 546 ⌝ }
+    requires { ⌜ length (now area) ≡ stateSize ⌝ }
     ensures { λ _. ⌜ now (area .exit) ≡ splice (now (area .entry)) 0 (linkOctets l) ⌝ }
 {
     let g = l.phase;
@@ -51,27 +57,29 @@ pub fn put_link(l: Link, area: &mut [u8])
     octets::put(area, 8, l.first);
 }
 
-fn put_slot(x: Slot, area: &mut [u8], at: usize)
-    requires { ⌜ at + 9 ≤ length (now area) ⌝ }
-    ensures { λ _. ⌜ now (area .exit) ≡ splice (now (area .entry)) at (slotOctets x) ⌝ }
+// Slot i.
+fn put_slot(x: Slot, area: &mut [u8], i: usize)
+    requires { ⌜ (length (now area) ≡ stateSize) × (i < slotCount) ⌝ }
+    ensures { λ _. ⌜ now (area .exit) ≡ splice (now (area .entry)) (slotPlace i) (slotOctets x) ⌝ }
 {
+    let at = slot_place(i);
     let o = slot_octets(x);
     octets::copy(&o, area, at);
 }
 
 pub fn put_slots(t: Slots, area: &mut [u8])
-    requires { ⌜ length (now area) ≡ 546 ⌝ }
-    ensures { λ _. ⌜ now (area .exit) ≡ splice (now (area .entry)) 510 (slotsOctets (t .slots)) ⌝ }
+    requires { ⌜ length (now area) ≡ stateSize ⌝ }
+    ensures { λ _. ⌜ now (area .exit) ≡ splice (now (area .entry)) slotsPlace (slotsOctets (t .slots)) ⌝ }
 {
-    put_slot(t.slots[0], area, 510);
-    put_slot(t.slots[1], area, 519);
-    put_slot(t.slots[2], area, 528);
-    put_slot(t.slots[3], area, 537);
+    put_slot(t.slots[0], area, 0);
+    put_slot(t.slots[1], area, 1);
+    put_slot(t.slots[2], area, 2);
+    put_slot(t.slots[3], area, 3);
 }
 
 // All of it.
 pub fn put_state(c: Collector, area: &mut [u8])
-    requires { ⌜ length (now area) ≡ 546 ⌝ }
+    requires { ⌜ length (now area) ≡ stateSize ⌝ }
     ensures { λ _. ⌜ now (area .exit) ≡ stateOctets c ⌝ }
 {
     let r = c.receiver;
@@ -79,6 +87,6 @@ pub fn put_state(c: Collector, area: &mut [u8])
     let s = r.store;
     let t = c.slots;
     put_link(l, area);
-    octets::copy(&s, area, 9);
+    octets::copy(&s, area, STORE);
     put_slots(t, area);
 }

@@ -1,9 +1,14 @@
 use Rattle.octets.specs.Rules.{tests}
+use Rattle.rebuild.proofs.Seen.{length-of-map}
+use Rattle.state.proofs.Whole.{Shaped}
+use Rattle.state.proofs.Exact.{shaped-loads}
 use borrow.Author.Needs.{needs}
-use Rattle.state.proofs.Values.{state-values}
-use Rattle.state.proofs.Exact.{loads-back}
 use Rattle.state.proofs.save.Statement.{statement}
 use Rattle.state.proofs.save.Tie as tie
+
+-- the arrays' lengths, at the entry
+shaped : (st : tie.Start) → Shaped (st .args .c)
+shaped st = record { head = search needs; store = search needs; four = search (length-of-map, st .good) }
 
 pub save-spec : {M : Type 1} → statement M
 save-spec =
@@ -12,4 +17,6 @@ save-spec =
     (λ c. record { answer = search (needs, tests); after = search (needs, tests); again = λ e. absurd (c .if1 .taken e) })
     (λ c κs. search needs)
     (λ c. search needs)
-    (λ c. record { answer = search (needs, tests); after = search (needs, tests); again = λ e. let st = c .before .before .before .before .before .before in rw (c .before .before .put-state .ensures) (loads-back (st .args .c) (state-values (st .args .c) _ (st .good .0))) }))
+    (λ c.
+    let st = c .before .before .before .before .before .before in
+    record { answer = search (needs, tests); after = search (needs, tests); again = λ e. rw (c .before .before .put-state .ensures) (shaped-loads (st .args .c) (shaped st)) }))

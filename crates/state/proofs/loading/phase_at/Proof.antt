@@ -1,4 +1,4 @@
-use Rattle.state.specs.Calls.{phaseAt}
+use Rattle.state.specs.Link.{phaseAt}
 use Rattle.octets.specs.Rules.{tests}
 use borrow.Author.Needs.{needs}
 use Rattle.state.proofs.loading.phase_at.Statement.{statement}

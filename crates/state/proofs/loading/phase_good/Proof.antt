@@ -1,5 +1,5 @@
 use borrow.Author.Needs.{needs}
-use Rattle.state.specs.Calls.{phaseGood}
+use Rattle.state.specs.Link.{phaseGood}
 use Rattle.octets.specs.Rules.{tests}
 use Rattle.state.proofs.loading.phase_good.Statement.{statement}
 use Rattle.state.proofs.loading.phase_good.Tie as tie

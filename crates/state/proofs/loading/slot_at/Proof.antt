@@ -1,4 +1,6 @@
+use Rattle.state.specs.Slot.{slotSize, slotOf}
 use Rattle.state.specs.Calls.{slotAt}
+use Rattle.state.proofs.Parts.{cut-by}
 use borrow.Author.Needs.{needs}
 use Rattle.state.proofs.loading.slot_at.Statement.{statement}
 use Rattle.state.proofs.loading.slot_at.Tie as tie
@@ -8,22 +10,10 @@ unfolding slotAt
 slot-at-spec =
     tie.close
     (tie.spec
-    (λ c. search needs)
-    (λ c. search needs)
-    (λ c. search needs)
-    (λ c. search needs)
-    (λ c. search needs)
-    (λ c. search needs)
-    (λ c. search needs)
-    (λ c. search needs)
-    (λ c. search needs)
-    (λ c. search needs)
-    (λ c. search needs)
-    (λ c. search needs)
-    (λ c. search needs)
+    (λ c κs. search needs)
     (λ c. search needs)
     (λ c. search needs)
     (λ c. search needs)
     (λ c. search needs)
     (λ c κs. search needs)
-    (λ c. rw (c .pair .ensures)))
+    (λ c. cut-by slotOf _ slotSize (c .before .before .slot-place .ensures) (c .slot-of .ensures)))

@@ -1,4 +1,5 @@
 use Rattle.state.specs.Calls.{stateGood}
+use Rattle.state.proofs.Parts.{one-by-one}
 use borrow.Author.Needs.{needs}
 use Rattle.state.proofs.loading.state_good.Statement.{statement}
 use Rattle.state.proofs.loading.state_good.Tie as tie
@@ -13,5 +14,5 @@ state-good-spec =
     (λ c. search needs)
     (λ c κs. search needs)
     (λ c κs. search needs)
-    (λ c. rw (← c .before .before .phase-good .ensures, c .before .if1 .taken) (c .slots-good .ensures))
-    (λ c. rw (← c .before .phase-good .ensures, c .if1 .left)))
+    (λ c. search (needs, one-by-one))
+    (λ c. search (needs, one-by-one)))

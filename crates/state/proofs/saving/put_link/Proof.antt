@@ -1,8 +1,8 @@
 use denote.Ref.{now}
-use Rattle.state.specs.Layout.{phaseOctets}
+use Rattle.state.specs.Link.{phaseOctets, linkOctets}
 use mathlib.Core.List.{[], _∷_}
 use Rattle.records.proofs.Areas.{three-laid}
-use Rattle.state.proofs.Parts.{phase-size}
+use Rattle.state.proofs.Link.{phase-size}
 use native.Mathlib.Omega.{arith}
 use mathlib.Core.Path.{_≡_}
 use lib.ListN.{length}
@@ -15,6 +15,7 @@ five : (st : tie.Start) → length (st .args .l .head) ≡ 5
 five st = search needs
 
 pub put-link-spec : {M : Type 1} → statement M
+unfolding linkOctets
 put-link-spec =
     tie.close
     (tie.spec

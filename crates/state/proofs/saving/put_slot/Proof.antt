@@ -7,7 +7,8 @@ put-slot-spec =
     tie.close
     (tie.spec
     (λ c κs. search needs)
+    (λ c κs. search needs)
     (λ c. search needs)
     (λ c κs. search needs)
     (λ c. search needs)
-    (λ c. rw (← c .before .before .before .before .before .slot-octets .ensures) (c .before .before .copy .ensures)))
+    (λ c. cc))

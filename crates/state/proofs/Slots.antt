@@ -1,0 +1,104 @@
+-- The slots, one after the other from any number on: one law for a slot of any number.
+use Prim.Native.Nat.{ℕ, zero, suc, _+_, _*_, _≤_, _<_}
+use native.Mathlib.Omega.{arith}
+use mathlib.Core.Path.{_≡_, refl, sym, ap, subst, _∙_}
+use mathlib.Core.Bool.{true}
+use mathlib.Core.List.{List, [], _∷_, _++_, append-assoc, append-nil}
+use lib.ListN.{length, getD, take, drop, length-append, drop-of-length-le}
+use lib.Seq.{take-at, drop-at, take-suc, take-length, length-take-le}
+use Rattle.octets.specs.Choice.{both-true}
+use Rattle.octets.specs.Every.{octets-part}
+use Rattle.octets.specs.Reading.{Octets}
+use Rattle.octets.specs.Splice.{splice, splice-nil, splice-then}
+use Rattle.rebuild.specs.View.{freeSlot}
+use Rattle.rebuild.specs.declared.Slot.{Slot}
+use Rattle.collector.specs.Calls.{slotCount}
+use Rattle.state.specs.Slot.{slotSize, slotOctets, slotGood, slotOf}
+use Rattle.state.specs.Layout.{slotsPlace, slotPlace, slotsSize, stateSize, slotPart, slotsOctets, SlotsFit}
+use Rattle.state.specs.Calls.{goodAt, slotsGood, slotAt, slotsAt}
+use Rattle.state.proofs.Parts.{cut-size, cut-then, join}
+use Rattle.state.proofs.Slot.{slot-size, slot-back, slot-stands, slot-fits}
+
+-- ---- their octets' number
+slots-long : (xs : List Slot) → length (slotsOctets xs) ≡ slotSize * length xs
+slots-long [] = omega arith
+slots-long (x ∷ xs) = let h = slots-long xs in let n = slot-size x in rw length-append (omega arith)
+
+pub slots-size : (xs : List Slot) → length xs ≡ slotCount → length (slotsOctets xs) ≡ slotsSize
+slots-size xs h = let n = slots-long xs in omega arith
+
+pub slots-shaped : (xs : List Slot) → length (slotsOctets xs) ≡ slotsSize → length xs ≡ slotCount
+slots-shaped xs h = let n = slots-long xs in omega arith
+
+-- ---- what stands at a slot's place is that slot
+slot-cut : (o : List ℕ) (i : ℕ) (s : List ℕ) → slotPart o i ≡ s → (slotAt o i ≡ slotOf s) × (goodAt o i ≡ slotGood s)
+unfolding slotAt goodAt
+slot-cut o i s e = (ap slotOf e, ap slotGood e)
+
+-- the octets of slots from number i on, behind what stands in front of them, are those slots
+pub slots-back : (a : List ℕ) (i : ℕ) (xs : List Slot) → length a ≡ slotPlace i
+    → (slotsAt (a ++ slotsOctets xs) i (length xs) ≡ xs) × (slotsGood (a ++ slotsOctets xs) i (length xs) ≡ true)
+slots-back a i [] h = (refl, refl)
+slots-back a i (x ∷ xs) h =
+    let q = slotsOctets xs in
+    let o = a ++ (slotOctets x ++ q) in
+    let n = slot-size x in
+    let m : length (a ++ slotOctets x) ≡ slotPlace (suc i) = rw length-append (omega arith) in
+    let c : slotPart o i ≡ slotOctets x = rw (drop-at a (slotOctets x ++ q) (slotPlace i) h) (take-at (slotOctets x) q slotSize n) in
+    let e = slot-cut o i (slotOctets x) c in
+    let b = slot-back x in
+    let r = rw (append-assoc a (slotOctets x) q) at (slots-back (a ++ slotOctets x) (suc i) xs m) in
+    (rw (e .0, b .0, r .0), rw (e .1, b .1, r .1))
+
+-- ---- octets that are slots are their octets
+slot-octets : (o : List ℕ) → Octets o → (i : ℕ) → slotPlace (suc i) ≤ length o → goodAt o i ≡ true → slotOctets (slotAt o i) ≡ slotPart o i
+unfolding slotAt goodAt
+slot-octets o os i h g =
+    slot-stands (slotPart o i) (octets-part o (slotPlace i) slotSize os) (cut-size slotSize (slotPlace i) o (omega arith)) g
+
+pub slots-stand : (o : List ℕ) → Octets o → (i n : ℕ) → length o ≡ slotPlace (i + n) → slotsGood o i n ≡ true → slotsOctets (slotsAt o i n) ≡ drop (slotPlace i) o
+slots-stand o os i zero h g = sym (drop-of-length-le o {i = slotPlace i} (omega arith))
+slots-stand o os i (suc n) h g =
+    let b = both-true (goodAt o i) (slotsGood o (suc i) n) g in
+    join (slot-octets o os i (omega arith) (b .0)) (slots-stand o os (suc i) n (omega arith) (b .1))
+    ∙ cut-then o (slotPlace i) slotSize (slotPlace (suc i)) (omega arith)
+
+-- ---- they fit, and are as many as were asked for
+pub slots-fit : (o : List ℕ) → Octets o → (i n : ℕ) → SlotsFit (slotsAt o i n)
+unfolding slotAt
+slots-fit o os i zero = tt
+slots-fit o os i (suc n) = (slot-fits (slotPart o i) (octets-part o (slotPlace i) slotSize os), slots-fit o os (suc i) n)
+
+pub slots-count : (o : List ℕ) (i n : ℕ) → length (slotsAt o i n) ≡ n
+slots-count o i zero = refl
+slots-count o i (suc n) = ap suc (slots-count o (suc i) n)
+
+-- ---- laying them, from the first to the last
+slots-join : (xs ys : List Slot) → slotsOctets (xs ++ ys) ≡ slotsOctets xs ++ slotsOctets ys
+slots-join [] ys = refl
+slots-join (x ∷ xs) ys = rw (slots-join xs ys) (sym (append-assoc (slotOctets x) (slotsOctets xs) (slotsOctets ys)))
+
+-- the first i slots lie in the area, and nothing else has changed
+abbrev pub SlotsLaid : List ℕ → List Slot → ℕ → List ℕ → Type 0
+SlotsLaid area xs i later = later ≡ splice area slotsPlace (slotsOctets (take i xs))
+
+module _ (area : List ℕ) (xs : List Slot) (size : length area ≡ stateSize) (four : length xs ≡ slotCount) where
+  pub slots-none : SlotsLaid area xs 0 area
+  slots-none = sym (splice-nil area slotsPlace)
+
+  pub slots-more : (i : ℕ) → i < slotCount → {later later′ : List ℕ} → SlotsLaid area xs i later
+      → later′ ≡ splice later (slotPlace i) (slotOctets (getD xs i freeSlot)) → SlotsLaid area xs (suc i) later′
+  slots-more i h {later} {later′} e d =
+      let x = getD xs i freeSlot in
+      let q = slotsOctets (take i xs) in
+      let n : length q ≡ slotSize * i = slots-long (take i xs) ∙ ap (λ (k : ℕ). slotSize * k) (length-take-le i xs (omega arith)) in
+      let m = slot-size x in
+      let p : slotPlace i ≡ slotsPlace + length q = rw n in
+      let t : slotsOctets (take (suc i) xs) ≡ q ++ slotOctets x =
+      ap slotsOctets (take-suc xs i freeSlot (omega arith)) ∙ slots-join (take i xs) (x ∷ []) ∙ ap (λ (l : List ℕ). q ++ l) (append-nil (slotOctets x)) in
+      rw t (splice-then area slotsPlace q (slotOctets x) (omega arith) e (rw p at d))
+
+  pub slots-all : {later : List ℕ} → SlotsLaid area xs slotCount later → later ≡ splice area slotsPlace (slotsOctets xs)
+  slots-all e =
+      let t : take slotCount xs ≡ xs = subst (λ (k : ℕ). take k xs ≡ xs) four (take-length xs) in
+      e ∙ ap (λ (l : List Slot). splice area slotsPlace (slotsOctets l)) t
