@@ -40,11 +40,11 @@ module _ (c : Collector) (area : List ℕ) (P : Passes c) (z : length area ≡ 6
   -- "one run of trunk octets with silences and forget orders at fixed places, from any state that passes 59": "Then reports, final state and
   -- message area are those that a reading of the whole recording by position gives."
   pub demand3 : {run : Run} {e : End} → Called (length (heldOf (c .receiver))) c area run e → e ≡ reading (rules keys bacnet) (c .receiver) (slotsOf c) area run
-  demand3 o = whole keys key-laws bacnet slotCount (λ n. refl) (P .receiver) (P .slots) (eq-eqb (length area) 65536 z) (called o)
+  demand3 o = whole keys key-laws bacnet slotCount (λ n. refl) (λ o g e. refl) (P .receiver) (P .slots) (eq-eqb (length area) 65536 z) (called o)
 
   -- every run can be offered to the box
   pub offered : (run : Run) → (e : End) × Offered box (length (heldOf (c .receiver))) (c .receiver) (slotsOf c) area run e
-  offered run = offerable keys key-laws bacnet slotCount (λ n. refl) run (c .receiver) (slotsOf c) area (P .receiver) (P .slots) (eq-eqb (length area) 65536 z)
+  offered run = offerable keys key-laws bacnet slotCount (λ n. refl) (λ o g e. refl) run (c .receiver) (slotsOf c) area (P .receiver) (P .slots) (eq-eqb (length area) 65536 z)
 
   -- "Each message begun and completed in the run is its key's accepted segments since its latest segment 0, joined in number order": t is the
   -- reading of the whole trunk, front the run up to the place where the last segment ends.

@@ -33,7 +33,7 @@ pub fresh : Passes freshCollector
 fresh = record { receiver = record { left = refl; head = length-replicate {A = ℕ} 5 0; store = length-replicate {A = ℕ} 501 0 }; slots = fresh-passes }
 
 pub keeps : Keeps (rules keys bacnet) damaged passing sized
-keeps = Recordings.keeps keys key-laws bacnet slotCount (λ n. refl)
+keeps = Recordings.keeps keys key-laws bacnet slotCount (λ n. refl) (λ o g e. refl)
 
 -- the receiver
 from-sound : (xs : List ℕ) (n : ℕ) (r : Receiver) → Sound r → Sound (feedFrom n r xs .receiver)

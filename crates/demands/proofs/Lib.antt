@@ -10,3 +10,4 @@ pub mod Three
 pub mod Worked
 pub mod Contracts
 pub mod HeaderRows
+pub mod SegmentRows

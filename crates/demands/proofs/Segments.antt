@@ -3,7 +3,7 @@ use Prim.Native.Nat.{ℕ, _+_, _*_, _≤_, _<_}
 use native.Mathlib.Omega.{arith}
 use mathlib.Core.Path.{_≡_, refl, sym, ap, _∙_}
 use mathlib.Core.Logic.{_⊎_, inl, inr}
-use mathlib.Core.Bool.{false}
+use mathlib.Core.Bool.{true, false}
 use mathlib.Core.List.{List}
 use mathlib.Core.Option.{Option, none, some}
 use lib.Dec.{eqb, ltb}
@@ -11,10 +11,11 @@ use lib.ListN.{length, set}
 use borrow.Author.Tests.{ltb-false, eqb-true, eqb-false}
 use Rattle.octets.specs.Choice.{both, non, pick-case, pick-cases, by-test, pick-false, pick-true, impossible}
 use Rattle.octets.specs.Splice.{splice}
-use Rattle.messages.specs.Slots.{room, Segment, Slot, Box, boxed, lowest, orElse, isSome, empty, openTo, isFree, slotOf}
-use Rattle.messages.specs.Rows.{Answer, Done, kept, lost, freeAt, recordAt, settle, settled, fitted, before, rows, rebuild}
+use Rattle.messages.specs.Slots.{room, Segment, Slot, Box, boxed, lowest, orElse, isSome, empty, slotAt, openTo, isFree, slotOf}
+use Rattle.messages.specs.Rows.{Answer, Done, startsAt, spent, starts, kept, lost, freeAt, recordAt, settle, settled, fitted, before, rows, rebuild}
 use Rattle.messages.specs.Rows.Answer.{refused, taken, completed}
 use Rattle.messages.proofs.Lowest.{lowest-some}
+use Rattle.messages.proofs.Starts.{starts-new}
 use Rattle.messages.proofs.Tests.{never}
 use Rattle.rebuild.specs.View.{keys, view, segmentOf}
 use Rattle.rebuild.specs.Calls as Rebuild
@@ -45,11 +46,16 @@ module _ (g : Segment Key) (b : Box Key) where
   abbrev Goes : Option ℕ → ℕ → Type 0
   Goes x n = (i : ℕ) → x ≡ some i → (i < length (b .slots)) × (n ≡ inFront g b i)
 
-  goes : (o : Option ℕ) → slotOf keys (g .key) (b .slots) ≡ o → both (non (eqb (g .number) 0)) (non (isSome o)) ≡ false
-      → Goes (orElse o (lowest (isFree keys) (b .slots))) (before keys g (recordAt keys (b .slots) o))
+  goes : (o : Option ℕ) → slotOf keys (g .key) (b .slots) ≡ o → both (non (starts keys g o (recordAt keys (b .slots) o))) (non (isSome o)) ≡ false
+      → Goes (orElse o (lowest (isFree keys) (b .slots))) (before keys g o (recordAt keys (b .slots) o))
   goes none e z i q =
-      (lowest-some (isFree keys) (empty keys) (b .slots) i q .0, by-test (eqb (g .number) 0) (λ t. rw t) (λ t. never (sym (rw t at z))))
-  goes (some j) e z i q = let s : j ≡ i = cc in (lowest-some (openTo keys (g .key)) (empty keys) (b .slots) i (e ∙ q) .0, ap (inFront g b) s)
+      let next = slotAt keys (b .slots) i .next in
+      let anew : startsAt (g .number) false 0 ≡ true = by-test (startsAt (g .number) false 0) (λ t. t) (λ t. never (sym (rw t at z))) in
+      let here : startsAt (g .number) false next ≡ true = starts-new (g .number) next ∙ sym (starts-new (g .number) 0) ∙ anew in
+      (lowest-some (isFree keys) (empty keys) (b .slots) i q .0, rw anew (sym (rw (e, here))))
+  goes (some j) e z i q =
+      let s : j ≡ i = cc in
+      (lowest-some (openTo keys (g .key)) (empty keys) (b .slots) i (e ∙ q) .0, sym (ap (λ (o : Option ℕ). before keys g o (slotAt keys (b .slots) j)) e) ∙ ap (inFront g b) s)
 
   finds : (x : Option ℕ) (n : ℕ) → Goes x n → n + length (g .octets) ≤ room → Does (settled keys g x n b)
   finds none n h f = keeps 50 (omega arith, omega arith)
@@ -57,18 +63,18 @@ module _ (g : Segment Key) (b : Box Key) where
 
   fits : (o : Option ℕ) → slotOf keys (g .key) (b .slots) ≡ o → (n : ℕ) → Goes (orElse o (lowest (isFree keys) (b .slots))) n → Does (fitted keys g o n b)
   fits o e n h =
-      pick-case Does (both (eqb (g .number) 255) (g .mor)) (loses 55 o e (omega arith, omega arith))
+      pick-case Does (spent (g .number) (g .mor)) (loses 55 o e (omega arith, omega arith))
       (pick-cases Does (ltb room (n + length (g .octets))) (λ _. loses 54 o e (omega arith, omega arith)) (λ f.
       finds (orElse o (lowest (isFree keys) (b .slots))) n h (ltb-false room (n + length (g .octets)) f)))
 
   by-rows : (o : Option ℕ) → slotOf keys (g .key) (b .slots) ≡ o → Does (rows keys g o (recordAt keys (b .slots) o) b)
   by-rows o e =
       let t = recordAt keys (b .slots) o in
-      let zeroth = eqb (g .number) 0 in
-      let later = both (isSome o) (non zeroth) in
-      pick-cases Does (both (non zeroth) (non (isSome o))) (λ _. keeps 51 (omega arith, omega arith)) (λ z.
+      let anew = starts keys g o t in
+      let later = both (isSome o) (non anew) in
+      pick-cases Does (both (non anew) (non (isSome o))) (λ _. keeps 51 (omega arith, omega arith)) (λ z.
       pick-case Does (both later (non (eqb (g .number) (t .next)))) (keeps 52 (omega arith, omega arith))
-      (pick-case Does (both later (non (eqb (g .choice) (t .choice)))) (keeps 53 (omega arith, omega arith)) (fits o e (before keys g t) (goes o e z))))
+      (pick-case Does (both later (non (eqb (g .choice) (t .choice)))) (keeps 53 (omega arith, omega arith)) (fits o e (before keys g o t) (goes o e z))))
 
 pub segment-does : SegmentDoes
 unfolding rebuild

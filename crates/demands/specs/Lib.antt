@@ -2,3 +2,4 @@ pub mod Words
 pub mod Demands
 pub mod Contracts
 pub mod HeaderRows
+pub mod SegmentRows

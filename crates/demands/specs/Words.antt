@@ -5,7 +5,6 @@ use mathlib.Core.Logic.{_↔_, _⊎_}
 use mathlib.Core.Bool.{Bool, true, false}
 use mathlib.Core.List.{List, _++_}
 use mathlib.Core.Option.{Option, none, some}
-use lib.Dec.{eqb}
 use lib.ListN.{length, drop, set}
 use Rattle.octets.specs.Choice.{pick}
 use Rattle.octets.specs.Splice.{splice}
@@ -18,7 +17,7 @@ use Rattle.frames.specs.declared.Receiver.{Receiver}
 use Rattle.trunk.specs.Reading.{Out}
 use Rattle.trunk.specs.Demand.{outOf}
 use Rattle.messages.specs.Slots.{Segment, Slot, Box, boxed, room, empty, slotAt, slotOf}
-use Rattle.messages.specs.Rows.{Answer, awaiting, freeAt, rebuild}
+use Rattle.messages.specs.Rows.{Answer, before, awaiting, freeAt, rebuild}
 use Rattle.messages.specs.Rows.Answer.{refused, taken, completed}
 use Rattle.rebuild.specs.View.{keys}
 use Rattle.rebuild.specs.declared.Key.{Key}
@@ -81,9 +80,9 @@ abbrev pub SegmentRefused : Segment Key → Box Key → ℕ → List (Slot Key) 
 SegmentRefused g b n slots area =
     (area ≡ b .area) × ((Between 50 53 n × (slots ≡ b .slots)) ⊎ (Between 54 55 n × (slots ≡ freeAt keys (slotOf keys (g .key) (b .slots)) (b .slots))))
 
--- "segments' parameters are laid end to end from its first": the octets in front of a segment's in slot i, none where number 0 starts or restarts
+-- "segments' parameters are laid end to end from its first": the octets in front of a segment's in slot i, none where it starts or restarts a message
 abbrev pub inFront : Segment Key → Box Key → ℕ → ℕ
-inFront g b i = pick (eqb (g .number) 0) 0 (slotAt keys (b .slots) i .held)
+inFront g b i = before keys g (slotOf keys (g .key) (b .slots)) (slotAt keys (b .slots) i)
 
 -- an accepted one lays its octets in slot i behind those, up to n, and nowhere else, and sets that slot's record
 pub record SegmentLaid (g : Segment Key) (b : Box Key) (i n : ℕ) (record′ : Slot Key) (slots : List (Slot Key)) (area : List ℕ) : Type 0 where

@@ -13,7 +13,7 @@ use borrow.Author.Tests.{eqb-true, eqb-false, ltb-false}
 use Rattle.octets.specs.Choice.{pick, both, non, by-test, pick-case, both-left, both-right}
 use Rattle.octets.specs.Splice.{splice}
 use Rattle.messages.specs.Slots.{room, part, Keys, KeyLaws, Segment, Slot, Box, lowest, orElse, isSome, empty, slotAt, openTo, isFree, slotOf}
-use Rattle.messages.specs.Rows.{Done, kept, lost, awaiting, recordAt, settle, settled, rows, rebuild, forget}
+use Rattle.messages.specs.Rows.{Done, startsAt, nextNumber, spent, starts, startsIn, kept, lost, awaiting, recordAt, settle, settled, rows, rebuild, forget}
 use Rattle.messages.specs.Sound.{Good}
 use Rattle.messages.specs.Alone.{Open, Reply, Gone, gone, viewAt, view, crowded, replyOf, alone, Own, isAt, own, replies, single, noFifty}
 use Rattle.messages.specs.Alone.Reply.{refuses, takes, gives}
@@ -22,10 +22,14 @@ use Rattle.messages.specs.History.Deed.{segment, forgetting}
 use Rattle.messages.proofs.Tests.{never}
 use Rattle.messages.proofs.Area.{part-grown}
 use Rattle.messages.proofs.Lowest.{lowest-some, lowest-none, lowest-set, lowest-sole, lowest-no}
-use Rattle.messages.proofs.Step.{Place, Step, stepped, fits, elsewhere, there, Seen, seen, placed, found, restarts, goes-on, good-rebuild, good-forget}
+use Rattle.messages.proofs.Step.{Place, Step, stepped, fits, elsewhere, there, Seen, seen, starts-by, placed, found, restarts, goes-on, good-rebuild, good-forget}
 use Rattle.messages.proofs.Step.Step.{stays, frees, took}
 
 module _ {Key : Type 0} (K : Keys Key) (L : KeyLaws K) where
+  -- keys that the comparison tells apart
+  pub differs : (j k : Key) → K .same j k ≡ false → j ≡ k → ⊥
+  differs j k e q = never (sym e ∙ subst (λ (x : Key). K .same j x ≡ true) q (L .self j))
+
   closed : (k : Key) (t : Slot Key) → (t .used ≡ true → t .key ≡ k → ⊥) → openTo K k t ≡ false
   closed k t h =
       by-test (t .used)
@@ -105,7 +109,7 @@ module _ {Key : Type 0} (K : Keys Key) (L : KeyLaws K) where
     settle-view : (i n : ℕ) (xs : List ℕ) → Place K g b i n → part (room * i) n (b .area) ≡ xs → length xs ≡ n
         → (let whole = xs ++ g .octets in
         Agrees (settle K g i n b)
-        (pick (g .mor) (gone (takes (length whole)) (some (record { next = g .number + 1; choice = g .choice; octets = whole }))) (gone (gives whole) none)))
+        (pick (g .mor) (gone (takes (length whole)) (some (record { next = nextNumber (g .number); choice = g .choice; octets = whole }))) (gone (gives whole) none)))
     settle-view i n xs P e len =
         let total : n + length (g .octets) ≡ length (xs ++ g .octets) = sym (length-append xs (g .octets) ∙ ap (λ (k : ℕ). k + length (g .octets)) len) in
         let area = splice (b .area) (room * i + n) (g .octets) in
@@ -115,13 +119,13 @@ module _ {Key : Type 0} (K : Keys Key) (L : KeyLaws K) where
         let found : slotOf K (g .key) (set (b .slots) i t) ≡ some i = find-set (b .slots) i (g .key) (P .inside) (P .sole) t (L .self (g .key)) in
         let lost : slotOf K (g .key) (set (b .slots) i (empty K)) ≡ none = lose-set (b .slots) i (g .key) (P .inside) (P .sole) in
         agree-case (g .mor)
-        (record { reply = ap takes total; left = rw (found, at) (ap (λ (l : List ℕ). some (record { next = g .number + 1; choice = g .choice; octets = l })) whole) })
+        (record { reply = ap takes total; left = rw (found, at) (ap (λ (l : List ℕ). some (record { next = nextNumber (g .number); choice = g .choice; octets = l })) whole) })
         (record { reply = ap gives whole; left = rw lost })
 
     -- the rows, in step
-    fresh : slotOf K (g .key) (b .slots) ≡ none → eqb (g .number) 0 ≡ true → 0 + length (g .octets) ≤ room → (o : Option ℕ) → lowest (isFree K) (b .slots) ≡ o
+    fresh : slotOf K (g .key) (b .slots) ≡ none → startsIn K g b ≡ true → 0 + length (g .octets) ≤ room → (o : Option ℕ) → lowest (isFree K) (b .slots) ≡ o
         → Agrees (settled K g o 0 b) (pick (non (isSome o)) (gone (refuses 50) none)
-        (pick (g .mor) (gone (takes (length (g .octets))) (some (record { next = g .number + 1; choice = g .choice; octets = g .octets }))) (gone (gives (g .octets)) none)))
+        (pick (g .mor) (gone (takes (length (g .octets))) (some (record { next = nextNumber (g .number); choice = g .choice; octets = g .octets }))) (gone (gives (g .octets)) none)))
     fresh e z f none q = record { reply = refl; left = rw e }
     fresh e z f (some i) q = settle-view i 0 [] (placed K L g b G e z f i q) refl refl
 
@@ -139,8 +143,8 @@ module _ {Key : Type 0} (K : Keys Key) (L : KeyLaws K) where
     go : (o : Option ℕ) → slotOf K (g .key) (b .slots) ≡ o → Agrees (rows K g o (recordAt K (b .slots) o) b) (alone g (viewAt K b o) (crowded K b))
     go none e =
         let same : (m : ℕ) → Agrees (kept m b) (gone (refuses m) none) = λ m. record { reply = refl; left = rw e } in
-        by-test (eqb (g .number) 0)
-        (λ z. rw z (agree-case (both (eqb (g .number) 255) (g .mor)) (same 55) (fit none 0 [] refl _ (same 54) (λ f. fresh e z f (lowest (isFree K) (b .slots)) refl))))
+        by-test (starts K g none (empty K))
+        (λ z. rw z (agree-case (spent (g .number) (g .mor)) (same 55) (fit none 0 [] refl _ (same 54) (λ f. fresh e (starts-by K L g b G none e ∙ z) f (lowest (isFree K) (b .slots)) refl))))
         (λ z. rw z (same 51))
     go (some i) e =
         let F = found K L g b G i e in
@@ -152,12 +156,13 @@ module _ {Key : Type 0} (K : Keys Key) (L : KeyLaws K) where
         let held : length xs ≡ t .held = length-take-le (t .held) (drop (room * i) (b .area)) (simp length-drop (omega arith)) in
         let same : (m : ℕ) → Agrees (kept m b) (gone (refuses m) (viewAt K b (some i))) = λ m. record { reply = refl; left = rw e } in
         let away : (m : ℕ) → Agrees (lost K m (some i) b) (gone (refuses m) none) = λ m. record { reply = refl; left = rw (lose-set (b .slots) i (g .key) inside (F .sole)) } in
-        by-test (eqb (g .number) 0)
-        (λ z. rw z (agree-case (both (eqb (g .number) 255) (g .mor)) (away 55) (fit (some i) 0 [] refl _ (away 54) (λ f. settle-view i 0 [] (restarts K L g b G i F z f) refl refl))))
+        let anew = starts-by K L g b G (some i) e in
+        by-test (starts K g (some i) t)
+        (λ z. rw z (agree-case (spent (g .number) (g .mor)) (away 55) (fit (some i) 0 [] refl _ (away 54) (λ f. settle-view i 0 [] (restarts K L g b G i F (anew ∙ z) f) refl refl))))
         (λ z. rw z (by-test (eqb (g .number) (t .next))
         (λ n. rw n (agree-case (non (eqb (g .choice) (t .choice))) (same 53)
-        (agree-case (both (eqb (g .number) 255) (g .mor)) (away 55)
-        (fit (some i) (t .held) xs held _ (away 54) (λ f. settle-view i (t .held) xs (goes-on K L g b G i F z n f) refl held)))))
+        (agree-case (spent (g .number) (g .mor)) (away 55)
+        (fit (some i) (t .held) xs held _ (away 54) (λ f. settle-view i (t .held) xs (goes-on K L g b G i F (anew ∙ z) n f) refl held)))))
         (λ n. rw n (same 52))))
 
     -- a segment's answer, apart from the slot's number, and what its key has open after it, hang on what the key had open, and on whether a slot is free
@@ -170,8 +175,8 @@ alone-free : {Key : Type 0} (g : Segment Key) (v : Option Open) (full : Bool) �
 alone-free g (some v) full h = refl
 alone-free g none false h = refl
 alone-free g none true h =
-    by-test (eqb (g .number) 0)
-    (λ z. by-test (both (eqb (g .number) 255) (g .mor))
+    by-test (startsAt (g .number) false 0)
+    (λ z. by-test (spent (g .number) (g .mor))
     (λ f. rw (z, f))
     (λ f. by-test (ltb room (length (g .octets)))
     (λ r. rw (z, f, r))
@@ -231,8 +236,7 @@ module _ {Key : Type 0} (K : Keys Key) (L : KeyLaws K) (k : Key) where
       (ap₂ (λ (r : Reply) (rs : List Reply). r ∷ rs) (said ∙ ap (λ (x : Gone). x .reply) fr)
       (separate ds b′ G′ (nf′ .1) ∙ ap (λ (v : Option Open). single v (own K k b′ ds)) (left ∙ ap (λ (x : Gone). x .left) fr))))
       (λ e.
-      let ne : g .key ≡ k → ⊥ = λ q. never (sym (subst (λ (k : Key). K .same (g .key) k ≡ false) (sym q) e) ∙ L .self (g .key)) in
-      rw e (separate ds b′ G′ (rw e at nf) ∙ ap (λ (v : Option Open). single v (own K k b′ ds)) (others-view K L g b G k ne)))
+      rw e (separate ds b′ G′ (rw e at nf) ∙ ap (λ (v : Option Open). single v (own K k b′ ds)) (others-view K L g b G k (differs K L (g .key) k e))))
   separate (forgetting i ∷ ds) b G nf =
       let b′ = forget K i b in
       let ih = separate ds b′ (good-forget K i b G) nf in

@@ -8,20 +8,21 @@ use native.Mathlib.Numerals.{add-one}
 use native.Mathlib.Omega.{arith}
 use lib.ListN.{length, set, drop, length-set, length-append, length-drop}
 use lib.Seq.{length-take-le}
-use borrow.Author.Tests.{eqb-true}
 use Rattle.octets.specs.Choice.{by-test, pick-case, impossible}
 use Rattle.octets.specs.Splice.{splice, splice-length}
 use Rattle.messages.specs.Slots.{room, part, Keys, KeyLaws, Segment, Slot, Box, boxed, empty, slotAt}
-use Rattle.messages.specs.Rows.{Answer, Done, awaiting, rebuild, forget}
+use Rattle.messages.specs.Rows.{Answer, Done, nextNumber, awaiting, rebuild, forget}
 use Rattle.messages.specs.Rows.Answer.{refused, taken, completed}
 use Rattle.messages.specs.Sound.{Good}
-use Rattle.messages.specs.History.{Deed, Log, accepted, of, begun, since, joined, numbers, below, Rebuilt, Past, past, after, runs, fromStart}
+use Rattle.messages.specs.History.{Deed, Log, accepted, of, starting, standing, begun, since, joined, numbers, below, Rebuilt, Past, past, after, runs, fromStart}
 use Rattle.messages.specs.History.Deed.{segment, forgetting}
 use Rattle.messages.specs.History.Entry.{said, dropped}
 use Rattle.messages.proofs.Tests.{never}
 use Rattle.messages.proofs.Area.{part-grown}
+use Rattle.messages.proofs.Starts.{starts-zero, next-one}
 use Rattle.messages.proofs.Step.{Begins, Follows, Place, Step, stepped, Seen, seen, fits, elsewhere, there, good-rebuild, good-forget}
 use Rattle.messages.proofs.Step.Step.{stays, frees, took}
+use Rattle.messages.proofs.Recall.{Recalls, starting-starts, recalls-start, recalls-segment, recalls-forget}
 
 joined-append : {Key : Type 0} (gs : List (Segment Key)) (g : Segment Key) → joined (gs ++ (g ∷ [])) ≡ joined gs ++ g .octets
 joined-append [] g = append-nil (g .octets)
@@ -71,32 +72,34 @@ module _ {Key : Type 0} (K : Keys Key) where
       at (inl x) = rw (x .1, x .0) new
       at (inr x) = rw (x .1) (old j (rw (length-set (b .slots) i t) at l) (x .0))
 
-  module _ (L : KeyLaws K) (g : Segment Key) (b : Box Key) (G : Good K b) (log : Log Key) (T : Told log b) where
+  module _ (L : KeyLaws K) (g : Segment Key) (b : Box Key) (G : Good K b) (log : Log Key) (T : Told log b) (R : Recalls K log b) where
     -- the slot that took the segment
     grown : (i n : ℕ) (w : Answer) → accepted w ≡ true → Place K g b i n → begun K (g .key) (said g w ∷ log) ≡ true
-        → Whole K (g .key) (said g w ∷ log) (part (room * i) (n + length (g .octets)) (splice (b .area) (room * i + n) (g .octets))) (g .number + 1)
+        → Whole K (g .key) (said g w ∷ log) (part (room * i) (n + length (g .octets)) (splice (b .area) (room * i + n) (g .octets))) (nextNumber (g .number))
     grown i n w ok P bg = by (P .how)
       where
         laid : part (room * i) (n + length (g .octets)) (splice (b .area) (room * i + n) (g .octets)) ≡ part (room * i) n (b .area) ++ g .octets
         laid = part-grown (b .area) (room * i) n (g .octets) (fits K g b G i n P)
 
         by : Begins K g b i n ⊎ Follows K g b i n
-            → Whole K (g .key) (said g w ∷ log) (part (room * i) (n + length (g .octets)) (splice (b .area) (room * i + n) (g .octets))) (g .number + 1)
+            → Whole K (g .key) (said g w ∷ log) (part (room * i) (n + length (g .octets)) (splice (b .area) (room * i + n) (g .octets))) (nextNumber (g .number))
         by (inl h) =
-            let z : g .number ≡ 0 = eqb-true (g .number) 0 (h .zeroth) in
+            let anew : starting K g log ≡ true = starting-starts K log g b R ∙ h .anew in
+            let z : g .number ≡ 0 = starts-zero (g .number) _ _ anew in
             record {
-              octets = rw (ok, L .self (g .key), h .zeroth) (laid ∙ rw (h .none-before) (sym (append-nil (g .octets))));
-              order = rw (ok, L .self (g .key), h .zeroth) (rw z);
+              octets = rw (ok, L .self (g .key), anew) (laid ∙ rw (h .none-before) (sym (append-nil (g .octets))));
+              order = rw (ok, L .self (g .key), anew) (rw (next-one (g .number), z));
             }
         by (inr h) =
-            let old : begun K (g .key) log ≡ true = rw (ok, L .self (g .key), h .later) at bg in
+            let later : starting K g log ≡ false = starting-starts K log g b R ∙ h .later in
+            let old : begun K (g .key) log ≡ true = rw (ok, L .self (g .key), later) at bg in
             let was = T i (P .inside) (h .used) (rw (h .mine) old) in
             let octs : part (room * i) n (b .area) ≡ joined (since K (g .key) log) =
             ap (λ (k : ℕ). part (room * i) k (b .area)) (h .held) ∙ was .octets ∙ ap (λ (k : Key). joined (since K k log)) (h .mine) in
             let ords : numbers (since K (g .key) log) ≡ below (g .number) = ap (λ (k : Key). numbers (since K k log)) (sym (h .mine)) ∙ was .order ∙ ap below (sym (h .next)) in
             record {
-              octets = rw (ok, L .self (g .key), h .later) (laid ∙ ap (λ (l : List ℕ). l ++ g .octets) octs ∙ sym (joined-append (since K (g .key) log) g));
-              order = rw (ok, L .self (g .key), h .later) (numbers-append (since K (g .key) log) g ∙ ap (λ (l : List ℕ). l ++ (g .number ∷ [])) ords ∙ rw (add-one (g .number)));
+              octets = rw (ok, L .self (g .key), later) (laid ∙ ap (λ (l : List ℕ). l ++ g .octets) octs ∙ sym (joined-append (since K (g .key) log) g));
+              order = rw (ok, L .self (g .key), later) (numbers-append (since K (g .key) log) g ∙ ap (λ (l : List ℕ). l ++ (g .number ∷ [])) ords ∙ rw (next-one (g .number), add-one (g .number)));
             }
 
     -- the others
@@ -123,7 +126,7 @@ module _ {Key : Type 0} (K : Keys Key) where
     -- the message that a segment completes
     abbrev Ended : ℕ → ℕ → Done Key → Type 0
     Ended i n d = d .answer ≡ completed i n → begun K (g .key) (said g (d .answer) ∷ log) ≡ true
-        → Whole K (g .key) (said g (d .answer) ∷ log) (part (room * i) n (d .box .area)) (g .number + 1) × (length (part (room * i) n (d .box .area)) ≡ n)
+        → Whole K (g .key) (said g (d .answer) ∷ log) (part (room * i) n (d .box .area)) (nextNumber (g .number)) × (length (part (room * i) n (d .box .area)) ≡ n)
 
     ended-by : (d : Done Key) → Step K g b d → (i n : ℕ) → Ended i n d
     ended-by d (stays m) i n = λ e bg. impossible (cc)
@@ -140,12 +143,17 @@ module _ {Key : Type 0} (K : Keys Key) where
         let long : length (part (room * j) (m + length (g .octets)) a) ≡ m + length (g .octets) = length-take-le (m + length (g .octets)) (drop (room * j) a) (simp length-drop (omega arith)) in
         rw (pi, pn) (grown j m (completed j (m + length (g .octets))) refl P bg, long))
 
-  -- ---- a run
+  -- ---- a run: one part of it after another
+  pub runs-append : (ds es : List (Deed Key)) (p : Past Key) → runs K p (ds ++ es) ≡ runs K (runs K p ds) es
+  runs-append [] es p = refl
+  runs-append (d ∷ ds) es p = runs-append ds es (after K d p)
+
   module _ (L : KeyLaws K) where
     -- 59 and 60 pass what a run leaves, and each open slot whose message was begun in it holds that message so far
     pub record Sure (p : Past Key) : Type 0 where
       pub good : Good K (p .box)
       pub told : Told (p .log) (p .box)
+      pub recalls : Recalls K (p .log) (p .box)
 
     -- a forget order that freed a slot says nothing of messages
     forgot : (log : Log Key) (k : Key) (t : Slot Key) (j : ℕ) (a : List ℕ) → Tells log t j a → Tells (dropped k ∷ log) t j a
@@ -162,17 +170,30 @@ module _ {Key : Type 0} (K : Keys Key) where
         rw u (told-set log b i (there K (b .slots) i u) (empty K) (b .area) (tells-none log i (b .area)) (λ j l ne. forgot (p .log) (t .key) (slotAt K (b .slots) j) j (b .area) (T j l))))
         (λ u. rw u T)
 
+    -- no message was begun in the run as it starts
+    begun-none : (s : List (Slot Key)) (k : Key) → begun K k (standing s) ≡ false
+    begun-none [] k = refl
+    begun-none (t ∷ s) k = pick-case (λ (log : Log Key). begun K k log ≡ false) (t .used) (begun-none s k) (begun-none s k)
+
     pub sure-after : (d : Deed Key) (p : Past Key) → Sure p → Sure (after K d p)
     sure-after (segment g) p s =
-        record { good = good-rebuild K L g (p .box) (s .good); told = told-by L g (p .box) (s .good) (p .log) (s .told) (rebuild K g (p .box)) (stepped K L g (p .box) (s .good)) }
-    sure-after (forgetting n) p s = record { good = good-forget K n (p .box) (s .good); told = told-forget p (s .told) n }
+        record {
+          good = good-rebuild K L g (p .box) (s .good);
+          told = told-by L g (p .box) (s .good) (p .log) (s .told) (s .recalls) (rebuild K g (p .box)) (stepped K L g (p .box) (s .good));
+          recalls = recalls-segment K L (p .box) (s .good) (p .log) (s .recalls) g;
+        }
+    sure-after (forgetting n) p s =
+        record { good = good-forget K n (p .box) (s .good); told = told-forget p (s .told) n; recalls = recalls-forget K L (p .box) (s .good) (p .log) (s .recalls) n }
 
     pub sure-runs : (ds : List (Deed Key)) (p : Past Key) → Sure p → Sure (runs K p ds)
     sure-runs [] p s = s
     sure-runs (d ∷ ds) p s = sure-runs ds (after K d p) (sure-after d p s)
 
     pub sure : (b : Box Key) → Good K b → (ds : List (Deed Key)) → Sure (fromStart K b ds)
-    sure b G ds = sure-runs ds (past [] b) (record { good = G; told = λ j l u bg. never bg })
+    sure b G ds =
+        let log = standing (b .slots) in
+        sure-runs ds (past log b)
+        (record { good = G; told = λ j l u bg. never (sym (begun-none (b .slots) (slotAt K (b .slots) j .key)) ∙ bg); recalls = recalls-start K (b .slots) (b .area) })
 
     -- "Each message begun and completed in the run is its key's accepted segments since its latest segment 0, joined in number order."
     pub completes : (b : Box Key) → Good K b → (ds : List (Deed Key)) (g : Segment Key) (i n : ℕ)
@@ -181,13 +202,8 @@ module _ {Key : Type 0} (K : Keys Key) where
     completes b G ds g i n e bg =
         let s = sure b G ds in
         let p = fromStart K b ds in
-        let all = ended-by L g (p .box) (s .good) (p .log) (s .told) (rebuild K g (p .box)) (stepped K L g (p .box) (s .good)) i n e bg in
+        let all = ended-by L g (p .box) (s .good) (p .log) (s .told) (s .recalls) (rebuild K g (p .box)) (stepped K L g (p .box) (s .good)) i n e bg in
         let w = all .0 in
         let gs = since K (g .key) (after K (segment g) p .log) in
-        let count : g .number + 1 ≡ length gs = sym (length-below (g .number + 1)) ∙ sym (ap length (w .order)) ∙ length-numbers gs in
+        let count : nextNumber (g .number) ≡ length gs = sym (length-below (nextNumber (g .number))) ∙ sym (ap length (w .order)) ∙ length-numbers gs in
         record { octets = w .octets; total = sym (all .1) ∙ ap length (w .octets); order = w .order ∙ ap below count }
-
-    -- one part of a run after another
-    pub runs-append : (ds es : List (Deed Key)) (p : Past Key) → runs K p (ds ++ es) ≡ runs K (runs K p ds) es
-    runs-append [] es p = refl
-    runs-append (d ∷ ds) es p = runs-append ds es (after K d p)

@@ -12,19 +12,20 @@ use borrow.Author.Tests.{eqb-true, eqb-false, ne-eqb, le-ltb, ltb-true, ltb-fals
 use Rattle.octets.specs.Choice.{both, by-test, pick-case, impossible}
 use Rattle.octets.specs.Splice.{splice, splice-before, splice-behind}
 use Rattle.messages.specs.Slots.{room, part, Keys, KeyLaws, Segment, Slot, Box, boxed, lowest, orElse, empty, slotAt, isFree, slotOf}
-use Rattle.messages.specs.Rows.{Answer, Done, kept, lost, awaiting, settle, settled, fitted, rebuild}
+use Rattle.messages.specs.Rows.{Answer, Done, nextNumber, kept, lost, awaiting, settle, settled, fitted, rebuild}
 use Rattle.messages.specs.Rows.Answer.{refused, taken, completed}
 use Rattle.messages.specs.Sound.{Good}
 use Rattle.messages.specs.History.{touches}
 use Rattle.messages.proofs.Step.{Step, stepped, fits, elsewhere}
 use Rattle.messages.proofs.Step.Step.{stays, frees, took}
 use Rattle.messages.proofs.Rows.{rebuild-open, rebuild-new, new-start, open-restart, open-52, fitted-on}
+use Rattle.messages.proofs.Starts.{starts-other, starts-open, starts-new, next-other}
 use Rattle.messages.proofs.Alone.{find-set}
 
 module _ {Key : Type 0} (K : Keys Key) (g : Segment Key) (b : Box Key) where
   -- 52: a repeated or late segment changes nothing
   pub repeated : (i : ℕ) → slotOf K (g .key) (b .slots) ≡ some i → eqb (g .number) 0 ≡ false → eqb (g .number) (slotAt K (b .slots) i .next) ≡ false → rebuild K g b ≡ kept 52 b
-  repeated i e z n = rebuild-open K g b i e ∙ open-52 K g b i (slotAt K (b .slots) i) z n
+  repeated i e z n = rebuild-open K g b i e ∙ open-52 K g b i (slotAt K (b .slots) i) (starts-other (g .number) true (slotAt K (b .slots) i .next) z) n
 
   -- number 0 with octets that fit is laid from the slot's first octet
   begins : (o : Option ℕ) → eqb (g .number) 0 ≡ true → length (g .octets) ≤ room → fitted K g o 0 b ≡ settled K g (orElse o (lowest (isFree K) (b .slots))) 0 b
@@ -34,12 +35,12 @@ module _ {Key : Type 0} (K : Keys Key) (g : Segment Key) (b : Box Key) where
 
   -- "Number 0 restarts an open key in its slot": whatever its choice, and whether or not another slot is free
   pub restart : (i : ℕ) → slotOf K (g .key) (b .slots) ≡ some i → eqb (g .number) 0 ≡ true → length (g .octets) ≤ room → rebuild K g b ≡ settle K g i 0 b
-  restart i e z f = rebuild-open K g b i e ∙ open-restart K g b i (slotAt K (b .slots) i) z ∙ begins (some i) z f
+  restart i e z f = rebuild-open K g b i e ∙ open-restart K g b i (slotAt K (b .slots) i) (starts-open (g .number) (slotAt K (b .slots) i .next) ∙ z) ∙ begins (some i) z f
 
   -- "otherwise the search stops at the lowest free slot"
   pub start : (i : ℕ) → slotOf K (g .key) (b .slots) ≡ none → lowest (isFree K) (b .slots) ≡ some i → eqb (g .number) 0 ≡ true → length (g .octets) ≤ room
       → rebuild K g b ≡ settle K g i 0 b
-  start i e s z f = rebuild-new K g b e ∙ new-start K g b z ∙ begins none z f ∙ ap (λ (o : Option ℕ). settled K g o 0 b) s
+  start i e s z f = rebuild-new K g b e ∙ new-start K g b (starts-new (g .number) 0 ∙ z) ∙ begins none z f ∙ ap (λ (o : Option ℕ). settled K g o 0 b) s
 
 module _ {Key : Type 0} (K : Keys Key) (L : KeyLaws K) (g : Segment Key) (b : Box Key) (G : Good K b) where
   -- ---- a refusal lays nothing, and leaves the slots as they were unless it is 54 or 55
@@ -123,7 +124,7 @@ module _ {Key : Type 0} (K : Keys Key) (L : KeyLaws K) (g : Segment Key) (b : Bo
       let t : Slot Key = awaiting K g (m + length (g .octets)) in
       let b′ : Box Key = boxed (set (b .slots) j t) (splice (b .area) (room * j + m) (g .octets)) in
       let next : eqb (g .number) (slotAt K (b′ .slots) j .next) ≡ false =
-      rw (getD-set-same (b .slots) j t (empty K) (P .inside)) (ne-eqb (g .number) (g .number + 1) (λ q. omega arith)) in
+      rw (getD-set-same (b .slots) j t (empty K) (P .inside)) (ne-eqb (g .number) (nextNumber (g .number)) (next-other (g .number))) in
       repeated K g b′ j (find-set K L (b .slots) j (g .key) (P .inside) (P .sole) t (L .self (g .key))) z next)
       (λ e. impossible (cc))
 

@@ -1,9 +1,12 @@
 pub mod Tests
+pub mod Starts
 pub mod Area
 pub mod Lowest
 pub mod Step
 pub mod Rows
+pub mod Alone
+pub mod Recall
 pub mod History
 pub mod Sound
-pub mod Alone
 pub mod Laws
+pub mod Table

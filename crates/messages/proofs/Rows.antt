@@ -5,10 +5,10 @@ use mathlib.Core.Option.{Option, none, some}
 use Prim.Native.Nat.{ℕ, _+_, _*_}
 use lib.Dec.{eqb, ltb}
 use lib.ListN.{length, set}
-use Rattle.octets.specs.Choice.{both, pick-false, pick-true}
+use Rattle.octets.specs.Choice.{pick-false, pick-true}
 use Rattle.octets.specs.Splice.{splice}
 use Rattle.messages.specs.Slots.{room, Keys, Segment, Slot, Box, lowest, orElse, empty, slotAt, isFree, slotOf}
-use Rattle.messages.specs.Rows.{done, kept, lost, awaiting, recordAt, settle, settled, fitted, rows, rebuild}
+use Rattle.messages.specs.Rows.{starts, spent, done, kept, lost, awaiting, recordAt, settle, settled, fitted, rows, rebuild}
 use Rattle.messages.specs.Rows.Answer.{taken, completed}
 
 module _ {Key : Type 0} (K : Keys Key) (g : Segment Key) (b : Box Key) where
@@ -21,36 +21,36 @@ module _ {Key : Type 0} (K : Keys Key) (g : Segment Key) (b : Box Key) where
   rebuild-new e = ap (λ (o : Option ℕ). rows K g o (recordAt K (b .slots) o) b) e
 
   -- a key that is not open
-  pub new-51 : eqb (g .number) 0 ≡ false → rows K g none (empty K) b ≡ kept 51 b
+  pub new-51 : starts K g none (empty K) ≡ false → rows K g none (empty K) b ≡ kept 51 b
   new-51 z = rw z
 
-  pub new-start : eqb (g .number) 0 ≡ true → rows K g none (empty K) b ≡ fitted K g none 0 b
+  pub new-start : starts K g none (empty K) ≡ true → rows K g none (empty K) b ≡ fitted K g none 0 b
   new-start z = rw z
 
   -- a key that is open in slot i
   module _ (i : ℕ) (t : Slot Key) where
-    pub open-restart : eqb (g .number) 0 ≡ true → rows K g (some i) t b ≡ fitted K g (some i) 0 b
+    pub open-restart : starts K g (some i) t ≡ true → rows K g (some i) t b ≡ fitted K g (some i) 0 b
     open-restart z = rw z
 
-    pub open-52 : eqb (g .number) 0 ≡ false → eqb (g .number) (t .next) ≡ false → rows K g (some i) t b ≡ kept 52 b
+    pub open-52 : starts K g (some i) t ≡ false → eqb (g .number) (t .next) ≡ false → rows K g (some i) t b ≡ kept 52 b
     open-52 z n = rw (z, n)
 
-    pub open-53 : eqb (g .number) 0 ≡ false → eqb (g .number) (t .next) ≡ true → eqb (g .choice) (t .choice) ≡ false → rows K g (some i) t b ≡ kept 53 b
+    pub open-53 : starts K g (some i) t ≡ false → eqb (g .number) (t .next) ≡ true → eqb (g .choice) (t .choice) ≡ false → rows K g (some i) t b ≡ kept 53 b
     open-53 z n c = rw (z, n, c)
 
-    pub open-on : eqb (g .number) 0 ≡ false → eqb (g .number) (t .next) ≡ true → eqb (g .choice) (t .choice) ≡ true → rows K g (some i) t b ≡ fitted K g (some i) (t .held) b
+    pub open-on : starts K g (some i) t ≡ false → eqb (g .number) (t .next) ≡ true → eqb (g .choice) (t .choice) ≡ true → rows K g (some i) t b ≡ fitted K g (some i) (t .held) b
     open-on z n c = rw (z, n, c)
 
   -- 55, 54 and what comes behind them
   module _ (o : Option ℕ) (n : ℕ) where
-    pub fitted-55 : both (eqb (g .number) 255) (g .mor) ≡ true → fitted K g o n b ≡ lost K 55 o b
-    fitted-55 e = pick-true (both (eqb (g .number) 255) (g .mor)) _ _ e
+    pub fitted-55 : spent (g .number) (g .mor) ≡ true → fitted K g o n b ≡ lost K 55 o b
+    fitted-55 e = pick-true (spent (g .number) (g .mor)) _ _ e
 
-    pub fitted-54 : both (eqb (g .number) 255) (g .mor) ≡ false → ltb room (n + length (g .octets)) ≡ true → fitted K g o n b ≡ lost K 54 o b
-    fitted-54 e r = pick-false (both (eqb (g .number) 255) (g .mor)) _ _ e ∙ pick-true (ltb room (n + length (g .octets))) _ _ r
+    pub fitted-54 : spent (g .number) (g .mor) ≡ false → ltb room (n + length (g .octets)) ≡ true → fitted K g o n b ≡ lost K 54 o b
+    fitted-54 e r = pick-false (spent (g .number) (g .mor)) _ _ e ∙ pick-true (ltb room (n + length (g .octets))) _ _ r
 
-    pub fitted-on : both (eqb (g .number) 255) (g .mor) ≡ false → ltb room (n + length (g .octets)) ≡ false → fitted K g o n b ≡ settled K g (orElse o (lowest (isFree K) (b .slots))) n b
-    fitted-on e r = pick-false (both (eqb (g .number) 255) (g .mor)) _ _ e ∙ pick-false (ltb room (n + length (g .octets))) _ _ r
+    pub fitted-on : spent (g .number) (g .mor) ≡ false → ltb room (n + length (g .octets)) ≡ false → fitted K g o n b ≡ settled K g (orElse o (lowest (isFree K) (b .slots))) n b
+    fitted-on e r = pick-false (spent (g .number) (g .mor)) _ _ e ∙ pick-false (ltb room (n + length (g .octets))) _ _ r
 
   -- by MOR
   module _ (i n : ℕ) where

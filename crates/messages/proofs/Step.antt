@@ -10,23 +10,23 @@ use lib.Dec.{eqb, ltb}
 use lib.ListN.{length, set, length-set, List·getD-eq-default}
 use lib.Seq.{getD-set-same, getD-set-other}
 use borrow.Author.Tests.{eqb-true, eqb-false, ltb-true, ltb-false}
-use Rattle.octets.specs.Choice.{both, by-test, pick-cases, both-left, both-right}
+use Rattle.octets.specs.Choice.{by-test, pick-cases, both-left, both-right}
 use Rattle.octets.specs.Splice.{splice, splice-length}
 use Rattle.messages.specs.Slots.{room, part, Keys, KeyLaws, Segment, Slot, Box, lowest, orElse, empty, slotAt, openTo, isFree, slotOf}
-use Rattle.messages.specs.Rows.{Done, kept, lost, recordAt, settle, settled, fitted, rows, rebuild, forget}
+use Rattle.messages.specs.Rows.{Done, starts, startsIn, spent, kept, lost, recordAt, settle, settled, fitted, rows, rebuild, forget}
 use Rattle.messages.specs.Sound.{Good}
 use Rattle.messages.proofs.Tests.{never}
 use Rattle.messages.proofs.Area.{part-before, part-behind}
 use Rattle.messages.proofs.Lowest.{lowest-some, lowest-none}
 
 module _ {Key : Type 0} (K : Keys Key) where
-  -- a segment 0 in slot i; a later one behind what the slot holds
+  -- a segment that starts a message in slot i; a later one behind what the slot holds
   pub record Begins (g : Segment Key) (b : Box Key) (i n : ℕ) : Type 0 where
-    pub zeroth : eqb (g .number) 0 ≡ true
+    pub anew : startsIn K g b ≡ true
     pub none-before : n ≡ 0
 
   pub record Follows (g : Segment Key) (b : Box Key) (i n : ℕ) : Type 0 where
-    pub later : eqb (g .number) 0 ≡ false
+    pub later : startsIn K g b ≡ false
     pub used : slotAt K (b .slots) i .used ≡ true
     pub mine : slotAt K (b .slots) i .key ≡ g .key
     pub next : g .number ≡ slotAt K (b .slots) i .next
@@ -56,11 +56,15 @@ module _ {Key : Type 0} (K : Keys Key) where
         let is : openTo K (g .key) (slotAt K (b .slots) j) ≡ true = rw (u, k) (L .self (g .key)) in
         never (sym off ∙ is)
 
+    -- whether it starts, by the slot of its key
+    pub starts-by : (o : Option ℕ) → slotOf K (g .key) (b .slots) ≡ o → startsIn K g b ≡ starts K g o (recordAt K (b .slots) o)
+    starts-by o e = ap (λ (o : Option ℕ). starts K g o (recordAt K (b .slots) o)) e
+
     -- a free slot, for a key that is not open
-    pub placed : slotOf K (g .key) (b .slots) ≡ none → eqb (g .number) 0 ≡ true → 0 + length (g .octets) ≤ room → (i : ℕ) → lowest (isFree K) (b .slots) ≡ some i → Place g b i 0
+    pub placed : slotOf K (g .key) (b .slots) ≡ none → startsIn K g b ≡ true → 0 + length (g .octets) ≤ room → (i : ℕ) → lowest (isFree K) (b .slots) ≡ some i → Place g b i 0
     placed e z f i q =
         let at = lowest-some (isFree K) (empty K) (b .slots) i q in
-        record { inside = at .0; fits = f; sole = nowhere e i; mine = λ u. never (rw u at (at .1)); how = inl (record { zeroth = z; none-before = refl }) }
+        record { inside = at .0; fits = f; sole = nowhere e i; mine = λ u. never (rw u at (at .1)); how = inl (record { anew = z; none-before = refl }) }
 
     -- the key's own slot
     pub record Found (i : ℕ) : Type 0 where
@@ -77,10 +81,10 @@ module _ {Key : Type 0} (K : Keys Key) where
         let k : t .key ≡ g .key = L .only (t .key) (g .key) (both-right (t .used) _ (at .1)) in
         record { inside = at .0; used = u; mine = k; sole = λ j l uj kj. G .apart j i l (at .0) uj u (kj ∙ sym k) }
 
-    pub restarts : (i : ℕ) → Found i → eqb (g .number) 0 ≡ true → 0 + length (g .octets) ≤ room → Place g b i 0
-    restarts i F z f = record { inside = F .inside; fits = f; sole = F .sole; mine = λ u. F .mine; how = inl (record { zeroth = z; none-before = refl }) }
+    pub restarts : (i : ℕ) → Found i → startsIn K g b ≡ true → 0 + length (g .octets) ≤ room → Place g b i 0
+    restarts i F z f = record { inside = F .inside; fits = f; sole = F .sole; mine = λ u. F .mine; how = inl (record { anew = z; none-before = refl }) }
 
-    pub goes-on : (i : ℕ) → Found i → eqb (g .number) 0 ≡ false → eqb (g .number) (slotAt K (b .slots) i .next) ≡ true → slotAt K (b .slots) i .held + length (g .octets) ≤ room
+    pub goes-on : (i : ℕ) → Found i → startsIn K g b ≡ false → eqb (g .number) (slotAt K (b .slots) i .next) ≡ true → slotAt K (b .slots) i .held + length (g .octets) ≤ room
         → Place g b i (slotAt K (b .slots) i .held)
     goes-on i F z n f =
         record {
@@ -91,7 +95,7 @@ module _ {Key : Type 0} (K : Keys Key) where
           how = inr (record { later = z; used = F .used; mine = F .mine; next = eqb-true (g .number) (slotAt K (b .slots) i .next) n; held = refl });
         }
 
-    fresh : slotOf K (g .key) (b .slots) ≡ none → eqb (g .number) 0 ≡ true → 0 + length (g .octets) ≤ room → (o : Option ℕ) → lowest (isFree K) (b .slots) ≡ o → Step g b (settled K g o 0 b)
+    fresh : slotOf K (g .key) (b .slots) ≡ none → startsIn K g b ≡ true → 0 + length (g .octets) ≤ room → (o : Option ℕ) → lowest (isFree K) (b .slots) ≡ o → Step g b (settled K g o 0 b)
     fresh e z f none q = stays 50
     fresh e z f (some i) q = took i 0 (placed e z f i q)
 
@@ -99,24 +103,24 @@ module _ {Key : Type 0} (K : Keys Key) where
     fit : (o : Option ℕ) (n : ℕ) → ((m : ℕ) → Frees m → Step g b (lost K m o b))
         → (n + length (g .octets) ≤ room → Step g b (settled K g (orElse o (lowest (isFree K) (b .slots))) n b)) → Step g b (fitted K g o n b)
     fit o n gone on =
-        pick-cases (λ (d : Done Key). Step g b d) (both (eqb (g .number) 255) (g .mor)) (λ t. gone 55 (inl refl)) (λ t.
+        pick-cases (λ (d : Done Key). Step g b d) (spent (g .number) (g .mor)) (λ t. gone 55 (inl refl)) (λ t.
         pick-cases (λ (d : Done Key). Step g b d) (ltb room (n + length (g .octets))) (λ u. gone 54 (inr refl)) (λ u.
         on (ltb-false room (n + length (g .octets)) u)))
 
     go : (o : Option ℕ) → slotOf K (g .key) (b .slots) ≡ o → Step g b (rows K g o (recordAt K (b .slots) o) b)
     go none e =
-        by-test (eqb (g .number) 0)
-        (λ z. rw z (fit none 0 (λ m f. stays m) (λ f. fresh e z f (lowest (isFree K) (b .slots)) refl)))
+        by-test (starts K g none (empty K))
+        (λ z. rw z (fit none 0 (λ m f. stays m) (λ f. fresh e (starts-by none e ∙ z) f (lowest (isFree K) (b .slots)) refl)))
         (λ z. rw z (stays 51))
     go (some i) e =
         let F = found i e in
         let t = slotAt K (b .slots) i in
         let gone : (m : ℕ) → Frees m → Step g b (lost K m (some i) b) = λ m f. frees m i f (F .inside) (F .mine) in
-        by-test (eqb (g .number) 0)
-        (λ z. rw z (fit (some i) 0 gone (λ f. took i 0 (restarts i F z f))))
+        by-test (starts K g (some i) t)
+        (λ z. rw z (fit (some i) 0 gone (λ f. took i 0 (restarts i F (starts-by (some i) e ∙ z) f))))
         (λ z. rw z (by-test (eqb (g .number) (t .next))
         (λ n. rw n (by-test (eqb (g .choice) (t .choice))
-        (λ c. rw c (fit (some i) (t .held) gone (λ f. took i (t .held) (goes-on i F z n f))))
+        (λ c. rw c (fit (some i) (t .held) gone (λ f. took i (t .held) (goes-on i F (starts-by (some i) e ∙ z) n f))))
         (λ c. rw c (stays 53))))
         (λ n. rw n (stays 52))))
 

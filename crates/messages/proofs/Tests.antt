@@ -1,10 +1,10 @@
 -- What a test with several parts says.
 use mathlib.Core.Path.{_≡_, refl}
-use mathlib.Core.Bool.{true, false}
+use mathlib.Core.Bool.{Bool, true, false}
 use mathlib.Core.Option.{Option, none, some}
 use Prim.Native.Nat.{ℕ}
 use native.Mathlib.Omega.{arith}
-use Rattle.octets.specs.Choice.{impossible}
+use Rattle.octets.specs.Choice.{non, impossible}
 use Rattle.messages.specs.Slots.{isSome}
 
 pub never : {P : Type 0} → false ≡ true → P
@@ -17,3 +17,7 @@ some-true (some i) e = (i, refl)
 pub none-false : (o : Option ℕ) → isSome o ≡ false → o ≡ none
 none-false none e = refl
 none-false (some i) e = cc
+
+pub non-false : (a : Bool) → non a ≡ false → a ≡ true
+non-false true e = refl
+non-false false e = cc

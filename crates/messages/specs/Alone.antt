@@ -8,7 +8,7 @@ use lib.Dec.{eqb, ltb}
 use lib.ListN.{length}
 use Rattle.octets.specs.Choice.{pick, both, non}
 use Rattle.messages.specs.Slots.{room, part, Keys, Segment, Box, lowest, isSome, slotAt, isFree, slotOf}
-use Rattle.messages.specs.Rows.{Answer, rebuild, forget}
+use Rattle.messages.specs.Rows.{Answer, startsAt, nextNumber, spent, rebuild, forget}
 use Rattle.messages.specs.Rows.Answer.{refused, taken, completed}
 use Rattle.messages.specs.History.{Deed}
 use Rattle.messages.specs.History.Deed.{segment, forgetting}
@@ -73,16 +73,16 @@ replyOf (completed i n) a = gives (part (room * i) n a)
 -- the rows over what the key has open; full: no slot is free
 abbrev pub alone : {Key : Type 0} → Segment Key → Option Open → Bool → Gone
 alone g v full =
-    let zeroth = eqb (g .number) 0 in
-    let later = both (opened v) (non zeroth) in
-    let whole = pick zeroth [] (octetsOf v) ++ g .octets in
-    pick (both (non zeroth) (non (opened v))) (gone (refuses 51) v)
+    let anew = startsAt (g .number) (opened v) (nextOf v) in
+    let later = both (opened v) (non anew) in
+    let whole = pick anew [] (octetsOf v) ++ g .octets in
+    pick (both (non anew) (non (opened v))) (gone (refuses 51) v)
     (pick (both later (non (eqb (g .number) (nextOf v)))) (gone (refuses 52) v)
     (pick (both later (non (eqb (g .choice) (choiceOf v)))) (gone (refuses 53) v)
-    (pick (both (eqb (g .number) 255) (g .mor)) (gone (refuses 55) none)
+    (pick (spent (g .number) (g .mor)) (gone (refuses 55) none)
     (pick (ltb room (length whole)) (gone (refuses 54) none)
     (pick (both (non (opened v)) full) (gone (refuses 50) v)
-    (pick (g .mor) (gone (takes (length whole)) (some (record { next = g .number + 1; choice = g .choice; octets = whole })))
+    (pick (g .mor) (gone (takes (length whole)) (some (record { next = nextNumber (g .number); choice = g .choice; octets = whole })))
     (gone (gives whole) none)))))))
 
 -- ---- a key's part of a run: its segments, and the forget orders that named its slot

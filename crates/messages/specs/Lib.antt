@@ -3,3 +3,4 @@ pub mod Rows
 pub mod Sound
 pub mod History
 pub mod Alone
+pub mod Table

@@ -1,5 +1,5 @@
 -- What a segment does, by the rows 51, 52, 53, 55, 54, 50 in that order, and what a forget order does.
-use mathlib.Core.Bool.{true}
+use mathlib.Core.Bool.{Bool, true}
 use mathlib.Core.List.{List}
 use mathlib.Core.Option.{Option, none, some}
 use Prim.Native.Nat.{ℕ, _+_, _*_}
@@ -8,6 +8,19 @@ use lib.ListN.{length, set}
 use Rattle.octets.specs.Choice.{pick, both, non}
 use Rattle.octets.specs.Splice.{splice}
 use Rattle.messages.specs.Slots.{room, Keys, Segment, Slot, Box, boxed, lowest, orElse, isSome, empty, slotAt, isFree, slotOf}
+
+-- "Number 0 restarts an open key in its slot", and starts one that is not open: whether a segment with this number does, where its key is open
+-- or not and, if it is, next is the number that must come
+unfoldable pub startsAt : ℕ → Bool → ℕ → Bool
+startsAt number isOpen next = eqb number 0
+
+-- "Any other number must be the next": the number after a number
+unfoldable pub nextNumber : ℕ → ℕ
+nextNumber n = n + 1
+
+-- 55: "number 255 with MOR"
+abbrev pub spent : ℕ → Bool → Bool
+spent number mor = both (eqb number 255) mor
 
 -- refused with a number; held so far in a slot, n octets; complete in a slot, n octets
 pub data Answer : Type 0 where
@@ -32,6 +45,10 @@ module _ {Key : Type 0} (K : Keys Key) where
   recordAt s none = empty K
   recordAt s (some i) = slotAt K s i
 
+  -- the segment starts or restarts its key's message; o: the slot of the key, if it is open; t: its record
+  abbrev pub starts : Segment Key → Option ℕ → Slot Key → Bool
+  starts g o t = startsAt (g .number) (isSome o) (t .next)
+
   abbrev pub freeAt : Option ℕ → List (Slot Key) → List (Slot Key)
   freeAt none s = s
   freeAt (some i) s = set s i (empty K)
@@ -42,7 +59,7 @@ module _ {Key : Type 0} (K : Keys Key) where
 
   -- the slot's record while more segments are to come
   abbrev pub awaiting : Segment Key → ℕ → Slot Key
-  awaiting g total = record { used = true; key = g .key; next = g .number + 1; choice = g .choice; held = total }
+  awaiting g total = record { used = true; key = g .key; next = nextNumber (g .number); choice = g .choice; held = total }
 
   -- "segments' parameters are laid end to end from its first": in slot i behind n octets; "A segment without MOR completes and frees the slot"
   abbrev pub settle : Segment Key → ℕ → ℕ → Box Key → Done Key
@@ -56,14 +73,14 @@ module _ {Key : Type 0} (K : Keys Key) where
   settled g none n b = kept 50 b
   settled g (some i) n b = settle g i n b
 
-  -- octets that stand in the slot before this segment's: none where number 0 starts or restarts
-  abbrev pub before : Segment Key → Slot Key → ℕ
-  before g t = pick (eqb (g .number) 0) 0 (t .held)
+  -- octets that stand in the slot before this segment's: none where it starts or restarts
+  abbrev pub before : Segment Key → Option ℕ → Slot Key → ℕ
+  before g o t = pick (starts g o t) 0 (t .held)
 
-  -- 55: "number 255 with MOR"; 54: "would pass 16,384 octets"; then the key's own slot, "otherwise the search stops at the lowest free slot"
+  -- 55, where no number comes after; 54: "would pass 16,384 octets"; then the key's own slot, "otherwise the search stops at the lowest free slot"
   abbrev pub fitted : Segment Key → Option ℕ → ℕ → Box Key → Done Key
   fitted g o n b =
-      pick (both (eqb (g .number) 255) (g .mor)) (lost 55 o b)
+      pick (spent (g .number) (g .mor)) (lost 55 o b)
       (pick (ltb room (n + length (g .octets))) (lost 54 o b)
       (settled g (orElse o (lowest (isFree K) (b .slots))) n b))
 
@@ -71,12 +88,16 @@ module _ {Key : Type 0} (K : Keys Key) where
   -- 51: "number not 0 and key not open"; 52, 53: "key open, no restart: not the next number; choice differs"
   abbrev pub rows : Segment Key → Option ℕ → Slot Key → Box Key → Done Key
   rows g o t b =
-      let zeroth = eqb (g .number) 0 in
-      let later = both (isSome o) (non zeroth) in
-      pick (both (non zeroth) (non (isSome o))) (kept 51 b)
+      let anew = starts g o t in
+      let later = both (isSome o) (non anew) in
+      pick (both (non anew) (non (isSome o))) (kept 51 b)
       (pick (both later (non (eqb (g .number) (t .next)))) (kept 52 b)
       (pick (both later (non (eqb (g .choice) (t .choice)))) (kept 53 b)
-      (fitted g o (before g t) b)))
+      (fitted g o (before g o t) b)))
+
+  -- the same of a segment and the slots as they are
+  abbrev pub startsIn : Segment Key → Box Key → Bool
+  startsIn g b = starts g (slotOf K (g .key) (b .slots)) (recordAt (b .slots) (slotOf K (g .key) (b .slots)))
 
   unfoldable pub rebuild : Segment Key → Box Key → Done Key
   rebuild g b = rows g (slotOf K (g .key) (b .slots)) (recordAt (b .slots) (slotOf K (g .key) (b .slots))) b

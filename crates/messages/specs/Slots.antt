@@ -15,10 +15,11 @@ room = 16384
 abbrev pub part : ℕ → ℕ → List ℕ → List ℕ
 part base n a = take n (drop base a)
 
--- how keys are compared, and the key of a record of zeros
+-- how keys are compared, the key of a record of zeros, and whether a key is one that some header gives, which 59 asks of open slots
 pub record Keys (Key : Type 0) : Type 0 where
   pub same : Key → Key → Bool
   pub nil : Key
+  pub given : Key → Bool
 
 -- the comparison tells equal keys
 pub record KeyLaws {Key : Type 0} (K : Keys Key) : Type 0 where

@@ -7,13 +7,14 @@ use Prim.Native.Nat.{ℕ, _+_, _*_}
 use lib.Dec.{eqb}
 use lib.ListN.{length, set}
 use borrow.Author.Tests.{eq-eqb, ne-eqb}
-use Rattle.octets.specs.Choice.{pick-false, pick-true}
+use Rattle.octets.specs.Choice.{pick-false, pick-true, impossible}
 use Rattle.octets.specs.Splice.{splice}
 use Rattle.messages.specs.Slots as Messages
 use Rattle.messages.specs.Rows as Rules
+use Rattle.messages.specs.Rows.Answer.{refused, taken, completed}
 use Rattle.messages.proofs.Rows.{settle-more, settle-last}
 use Rattle.rebuild.specs.View.{keys, freeSlot, seen, view, segmentOf}
-use Rattle.rebuild.specs.Calls.{Gives, taking, Forgets}
+use Rattle.rebuild.specs.Calls.{stepOf, Gives, taking, Forgets}
 use Rattle.rebuild.specs.declared.Key.{Key}
 use Rattle.rebuild.specs.declared.Slot.{Slot}
 use Rattle.rebuild.specs.declared.Slots.{Slots}
@@ -29,6 +30,18 @@ gives-by q h = rw q h
 -- any two answers that the promise allows are equal
 pub gives-one : {d : Rules.Done Key} {r r′ : Taken} {later later′ : List ℕ} → Gives d r later → Gives d r′ later′ → (r .answer ≡ r′ .answer) × ((r .slots ≡ r′ .slots) × (later ≡ later′))
 gives-one {r = r} {r′ = r′} a b = (a .answer ∙ sym (b .answer), (view-one (r .slots) (r′ .slots) (a .slots ∙ sym (b .slots)), a .area ∙ sym (b .area)))
+
+-- the code's answer has one of the rules'
+pub step-one : (w v : Rules.Answer) → stepOf w ≡ stepOf v → w ≡ v
+step-one (refused m) (refused n) e = cc
+step-one (refused m) (taken j n) e = impossible (cc)
+step-one (refused m) (completed j n) e = impossible (cc)
+step-one (taken i m) (refused n) e = impossible (cc)
+step-one (taken i m) (taken j n) e = cc
+step-one (taken i m) (completed j n) e = impossible (cc)
+step-one (completed i m) (refused n) e = impossible (cc)
+step-one (completed i m) (taken j n) e = impossible (cc)
+step-one (completed i m) (completed j n) e = cc
 
 -- 60, or the rules
 pub taking-60 : (t : Slots) (g : Segment) (o area : List ℕ) → (length area ≡ 65536 → ⊥) → taking t g o area ≡ Rules.kept 60 (Messages.boxed (view t) area)
@@ -49,7 +62,7 @@ module _ (t : Slots) (area : List ℕ) where
   module _ (g : Segment) (o : List ℕ) (s n : ℕ) where
     -- the record of a slot that awaits the next segment
     abbrev pub open-slot : Slot
-    open-slot = record { used = true; key = g .key; next = g .number + 1; choice = g .choice; held = n + length o }
+    open-slot = record { used = true; key = g .key; next = Rules.nextNumber (g .number); choice = g .choice; held = n + length o }
 
     pub gives-more : (u : Slots) (later : List ℕ) → g .mor ≡ true → u .slots ≡ set (t .slots) s open-slot → later ≡ splice area (16384 * s + n) o
         → Gives (Rules.settle keys (segmentOf g o) s n (Messages.boxed (view t) area)) (record { answer = Held s (n + length o); slots = u }) later

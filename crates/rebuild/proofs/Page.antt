@@ -7,10 +7,10 @@ use native.Mathlib.Omega.{arith}
 use lib.Dec.{eqb}
 use lib.ListN.{length}
 use borrow.Author.Tests.{eqb-true, eq-eqb}
-use Rattle.octets.specs.Choice.{both-left, both-right, impossible}
+use Rattle.octets.specs.Choice.{both-left, both-right}
 use Rattle.messages.specs.Slots.{room, part, KeyLaws, Segment, Box, boxed}
-use Rattle.messages.specs.Rows.{Answer, Done, rebuild}
-use Rattle.messages.specs.Rows.Answer.{refused, taken, completed}
+use Rattle.messages.specs.Rows.{Done, rebuild}
+use Rattle.messages.specs.Rows.Answer.{taken, completed}
 use Rattle.messages.specs.Sound.{Good, passes}
 use Rattle.messages.specs.History.{Deed, begun, touches, Rebuilt, after, fromStart}
 use Rattle.messages.specs.History.Deed.{segment}
@@ -20,14 +20,14 @@ use Rattle.messages.proofs.History.{completes}
 use Rattle.messages.proofs.Laws.{others, within-taken, within-completed}
 use Rattle.messages.proofs.Alone.{undisturbed}
 use Rattle.rebuild.specs.View.{keys, sameKey, fresh, view, segmentOf}
-use Rattle.rebuild.specs.Calls.{stepOf, Gives, taking, Forgets}
+use Rattle.rebuild.specs.Calls.{Gives, taking, Forgets}
 use Rattle.rebuild.specs.declared.Key.{Key}
 use Rattle.rebuild.specs.declared.Slots.{Slots}
 use Rattle.rebuild.specs.declared.Segment.{Segment as Asked}
 use Rattle.rebuild.specs.declared.Step.the-variants.{Held, Complete}
 use Rattle.rebuild.specs.declared.Taken.{Taken}
 use Rattle.rebuild.specs.declared.Forgot.{Forgot}
-use Rattle.rebuild.proofs.Giving.{gives-by, taking-on}
+use Rattle.rebuild.proofs.Giving.{gives-by, taking-on, step-one}
 
 pub key-laws : KeyLaws keys
 unfolding sameKey
@@ -47,17 +47,6 @@ key-laws =
 -- 59 passes the four free slots
 pub fresh-passes : passes keys 4 (view fresh) ≡ true
 fresh-passes = refl
-
--- the answer's cases are told apart
-held-taken : (w : Answer) (s n : ℕ) → stepOf w ≡ Held s n → w ≡ taken s n
-held-taken (refused m) s n e = impossible (cc)
-held-taken (taken i m) s n e = cc
-held-taken (completed i m) s n e = impossible (cc)
-
-complete-completed : (w : Answer) (s n : ℕ) → stepOf w ≡ Complete s n → w ≡ completed s n
-complete-completed (refused m) s n e = impossible (cc)
-complete-completed (taken i m) s n e = impossible (cc)
-complete-completed (completed i m) s n e = cc
 
 -- from slots that 59 passes and an area that 60 passes
 module _ (t : Slots) (a : List ℕ) (p : passes keys 4 (view t) ≡ true) (z : length a ≡ 65536) where
@@ -90,14 +79,14 @@ module _ (t : Slots) (a : List ℕ) (p : passes keys 4 (view t) ≡ true) (z : l
 
     pub take-keeps : (passes keys 4 (view (r .slots)) ≡ true) × (length later ≡ 65536)
     take-keeps =
-        let k = passes-rebuild keys key-laws 4 (segmentOf g o) (view t) a p (eq-eqb (length a) 65536 z) in
+        let k = passes-rebuild keys key-laws 4 (segmentOf g o) (view t) a refl p (eq-eqb (length a) 65536 z) in
         (rw (ruled .slots) (k .0), rw (ruled .area) (eqb-true (length (done .box .area)) 65536 (k .1)))
 
     pub take-held : (s n : ℕ) → r .answer ≡ Held s n → (s < 4) × (n ≤ 16384)
-    take-held s n e = rw four at (within-taken keys key-laws (segmentOf g o) begin fair s n (held-taken (done .answer) s n (sym (ruled .answer) ∙ e)))
+    take-held s n e = rw four at (within-taken keys key-laws (segmentOf g o) begin fair s n (step-one (done .answer) (taken s n) (sym (ruled .answer) ∙ e)))
 
     pub take-complete : (s n : ℕ) → r .answer ≡ Complete s n → (s < 4) × (n ≤ 16384)
-    take-complete s n e = rw four at (within-completed keys key-laws (segmentOf g o) begin fair s n (complete-completed (done .answer) s n (sym (ruled .answer) ∙ e)))
+    take-complete s n e = rw four at (within-completed keys key-laws (segmentOf g o) begin fair s n (step-one (done .answer) (completed s n) (sym (ruled .answer) ∙ e)))
 
 pub forget-keeps : (t : Slots) (s : ℕ) {r : Forgot} → passes keys 4 (view t) ≡ true → Forgets t s r → passes keys 4 (view (r .slots)) ≡ true
 forget-keeps t s p h = rw (h .slots) (passes-forget keys key-laws 4 s (view t) p)

@@ -1,5 +1,5 @@
 -- The slots that the code keeps, as the rules see them, and the page's key.
-use mathlib.Core.Bool.{Bool, false}
+use mathlib.Core.Bool.{Bool, true, false}
 use mathlib.Core.List.{List, map}
 use mathlib.Core.Option.{Option, none, some}
 use Prim.Native.Nat.{ℕ, _+_}
@@ -21,8 +21,9 @@ sameKey a b = both (eqb (a .source) (b .source)) (both (eqb (a .destination) (b 
 abbrev pub zeroKey : Key
 zeroKey = record { source = 0; destination = 0; kind = 0; invoke = 0 }
 
+-- every key is one that a header gives
 abbrev pub keys : Messages.Keys Key
-keys = record { same = sameKey; nil = zeroKey }
+keys = record { same = sameKey; nil = zeroKey; given = λ k. true }
 
 -- "Freeing zeroes a slot's record"
 abbrev pub freeSlot : Slot

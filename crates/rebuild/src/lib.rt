@@ -124,7 +124,7 @@ pub fn forget(slots: Slots, s: u8) -> Forgot
     }
 }
 
-// 59's part for slots: none holds over 16,384, no two open slots have one key.
+// 59's part for slots: none holds over 16,384, open slots' keys are given, no two open slots have one key.
 pub fn sound(slots: Slots) -> bool
     ensures { λ r. ⌜ r ≡ passes keys 4 (view slots) ⌝ }
 {
@@ -132,6 +132,9 @@ pub fn sound(slots: Slots) -> bool
     while s < 4 {
         let x = slots.slots[s];
         if 16384 < x.held {
+            return false;
+        }
+        if search::strange(x) {
             return false;
         }
         if search::twice(slots, s) {

@@ -11,9 +11,7 @@ ghost use mathlib.Core.Bool.{true, false};
 ghost use mathlib.Core.Option.{none, some};
 ghost use mathlib.Core.List.{[]};
 ghost use Prim.Native.Nat.{_+_, _≤_, _<_};
-ghost use lib.Dec.{eqb};
 ghost use lib.ListN.{length, set};
-ghost use Rattle.octets.specs.Choice.{both};
 ghost use Rattle.messages.specs.Slots.{boxed, slotAt, empty};
 ghost use Rattle.messages.specs.Rows as Rules;
 ghost use Rattle.rebuild.specs.View.{keys, view, segmentOf, freeSlot};
@@ -51,9 +49,24 @@ fn lost(t: Slots, s: usize, n: u8) -> Taken
     }
 }
 
+// Whether a segment with this number starts its key's message, or starts it anew: by whether the key is open and which number must come.
+fn starts(number: u8, is_open: bool, next: u8) -> bool
+    ensures { λ r. ⌜ r ≡ Rules.startsAt number is_open next ⌝ }
+{
+    number == 0
+}
+
+// The number after a number.
+fn next_number(n: u8) -> u8
+    requires { ⌜ n < 255 ⌝ }
+    ensures { λ r. ⌜ r ≡ Rules.nextNumber n ⌝ }
+{
+    n + 1
+}
+
 // 55: the number after this one would not be one.
 fn last_number(g: Segment) -> bool
-    ensures { λ r. ⌜ r ≡ both (eqb (g .number) 255) (g .mor) ⌝ }
+    ensures { λ r. ⌜ r ≡ Rules.spent (g .number) (g .mor) ⌝ }
 {
     let mor = g.mor;
     if g.number == 255 {
@@ -64,7 +77,7 @@ fn last_number(g: Segment) -> bool
 
 // The segment laid in slot s behind n octets: held there, or complete and the slot freed.
 fn settle(t: Slots, s: usize, n: usize, g: Segment, octets: &[u8], area: &mut [u8]) -> Taken
-    requires { ⌜ Fits s n (now octets) (now area) × (both (eqb (g .number) 255) (g .mor) ≡ false) ⌝ }
+    requires { ⌜ Fits s n (now octets) (now area) × (Rules.spent (g .number) (g .mor) ≡ false) ⌝ }
     ensures { λ r. ⌜ Gives (Rules.settle keys (segmentOf g (now (octets .entry))) s n (boxed (view t) (now (area .entry)))) r (now (area .exit)) ⌝ }
 {
     octets::copy(octets, area, 16384 * s + n);
@@ -76,7 +89,7 @@ fn settle(t: Slots, s: usize, n: usize, g: Segment, octets: &[u8], area: &mut [u
         let x = Slot {
             used: true,
             key: k,
-            next: g.number + 1,
+            next: next_number(g.number),
             choice: g.choice,
             held: total,
         };
@@ -110,10 +123,10 @@ pub fn take_open(t: Slots, s: usize, g: Segment, octets: &[u8], area: &mut [u8])
     requires { ⌜ (s < 4) × (length (now area) ≡ 65536) ⌝ }
     ensures { λ r. ⌜ Gives (Rules.rows keys (segmentOf g (now (octets .entry))) (some s) (slotAt keys (view t) s) (boxed (view t) (now (area .entry)))) r (now (area .exit)) ⌝ }
 {
-    if g.number == 0 {
+    let x = t.slots[s];
+    if starts(g.number, true, x.next) {
         return fitted(t, s, 0, g, octets, area);
     }
-    let x = t.slots[s];
     if g.number != x.next {
         return kept(t, 52);
     }
@@ -129,7 +142,7 @@ pub fn take_new(t: Slots, g: Segment, octets: &[u8], area: &mut [u8]) -> Taken
     requires { ⌜ length (now area) ≡ 65536 ⌝ }
     ensures { λ r. ⌜ Gives (Rules.rows keys (segmentOf g (now (octets .entry))) none (empty keys) (boxed (view t) (now (area .entry)))) r (now (area .exit)) ⌝ }
 {
-    if g.number != 0 {
+    if !starts(g.number, false, 0) {
         return kept(t, 51);
     }
     if 16384 < octets.len() {

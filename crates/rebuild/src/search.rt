@@ -81,6 +81,24 @@ pub fn lowest_free(t: Slots) -> Found
     slot
 }
 
+// Whether a header gives the key: every key, as yet.
+fn key_given(k: Key) -> bool
+    ensures { λ r. ⌜ r ≡ keys .given k ⌝ }
+{
+    true
+}
+
+// Whether a slot is open with a key that no header gives.
+pub fn strange(x: Slot) -> bool
+    ensures { λ r. ⌜ r ≡ Sound.strange keys (seen x) ⌝ }
+{
+    let k = x.key;
+    if key_given(k) {
+        return false;
+    }
+    x.used
+}
+
 // Whether slot s is open and a later open slot has its key.
 pub fn twice(t: Slots, s: usize) -> bool
     requires { ⌜ s < 4 ⌝ }

@@ -12,11 +12,11 @@ use Rattle.messages.specs.Slots.{Keys, KeyLaws, Segment, Slot, Box, boxed}
 use Rattle.messages.specs.Rows as Rows
 use Rattle.messages.specs.Rows.{rebuild}
 use Rattle.messages.specs.Rows.Answer.{completed}
-use Rattle.messages.specs.History.{Deed, Log, begun, Rebuilt, Past, past, after, runs, fromStart}
+use Rattle.messages.specs.History.{Deed, Log, begun, Rebuilt, Past, past, after, runs, standing, fromStart}
 use Rattle.messages.specs.History.Deed.{segment, forgetting}
 use Rattle.messages.specs.History.Entry.{said}
 use Rattle.messages.specs.Sound.{Good}
-use Rattle.messages.proofs.History.{completes}
+use Rattle.messages.proofs.History.{runs-append, completes}
 use Rattle.recordings.specs.Frames.{Frames, actOn, rules, deedOf, deedsAt, deeds, history, boxAt, Completes}
 
 module _ {O Key M R : Type 0} (K : Keys Key) (f : Frames O Key R) where
@@ -47,10 +47,6 @@ module _ {O Key M R : Type 0} (K : Keys Key) (f : Frames O Key R) where
       out-box p (ended p t) (λ s a. walk (rules K f) t (p + 1) s a run) (deeds K f t (p + 1) run) (λ log s a. boxes t run (p + 1) log s a) log s a
   boxes t (forget n ∷ run) p log s a = boxes t run p (after K (forgetting n) (past log (boxed s a)) .log) (Rows.forgotten K n s) a
 
-runs-append : {Key : Type 0} (K : Keys Key) (ds es : List (Deed Key)) (p : Past Key) → runs K p (ds ++ es) ≡ runs K (runs K p ds) es
-runs-append K [] es p = refl
-runs-append K (d ∷ ds) es p = runs-append K ds es (after K d p)
-
 module _ {O Key M R : Type 0} (K : Keys Key) (L : KeyLaws K) (f : Frames O Key R) (t : Trace O M) where
   deeds-append : (front back : Run) (p : ℕ) → deeds K f t p (front ++ back) ≡ deeds K f t p front ++ deeds K f t (p + length (wire front)) back
   deeds-append [] back p = ap (λ (q : ℕ). deeds K f t q back) (omega arith)
@@ -67,7 +63,7 @@ module _ {O Key M R : Type 0} (K : Keys Key) (L : KeyLaws K) (f : Frames O Key R
     one-more = deeds-append front (trunk e ∷ []) p ∙ rw (here, is)
 
     all : fromStart K (boxed s a) (deeds K f t p (front ++ (trunk e ∷ []))) ≡ after K (segment g) (fromStart K (boxed s a) (deeds K f t p front))
-    all = ap (fromStart K (boxed s a)) one-more ∙ runs-append K (deeds K f t p front) (segment g ∷ []) (past [] (boxed s a))
+    all = ap (fromStart K (boxed s a)) one-more ∙ runs-append K (deeds K f t p front) (segment g ∷ []) (past (standing s) (boxed s a))
 
     -- "Each message begun and completed in the run is its key's accepted segments since its latest segment 0, joined in number order": at the
     -- place where its last segment ends, the n octets of its slot are so, and n is their number.
@@ -80,7 +76,7 @@ module _ {O Key M R : Type 0} (K : Keys Key) (L : KeyLaws K) (f : Frames O Key R
         let p0 = fromStart K (boxed s a) (deeds K f t p front) in
         let q = after K (segment g) p0 in
         let Holds : Past Key → Type 0 = λ q. Completes (q .log) k i n → begun K k (q .log) ≡ true → Rebuilt K k (q .log) (q .box .area) i n in
-        rw (ap (λ (b : Box Key). b .area) (boxes K f t run p [] s a))
+        rw (ap (λ (b : Box Key). b .area) (boxes K f t run p (standing s) s a))
         (subst Holds (sym all) (λ c bg.
         subst (λ (k : Key). Rebuilt K k (q .log) (q .box .area) i n) (c .0)
         (completes K L (boxed s a) G (deeds K f t p front) g i n (c .1) (subst (λ (k : Key). begun K k (q .log) ≡ true) (sym (c .0)) bg))))

@@ -1,5 +1,5 @@
 -- Demand 3, its first sentence, for a box of receiver, slots and one area: any frames, any key, any count of slots.
-use mathlib.Core.Path.{_≡_}
+use mathlib.Core.Path.{_≡_, refl}
 use mathlib.Core.Bool.{true}
 use mathlib.Core.List.{List}
 use mathlib.Core.Option.{Option, none, some}
@@ -17,21 +17,22 @@ use Rattle.messages.specs.Sound.{passes, sizedFor}
 use Rattle.messages.proofs.Sound.{passes-rebuild, passes-forget}
 use Rattle.recordings.specs.Frames.{Frames, actOn, rules}
 
-module _ {Key R : Type 0} (K : Keys Key) (L : KeyLaws K) (f : Frames Out Key R) (c : ℕ) (still : (n : ℕ) → f .segmentOf (damage n) ≡ none) where
+module _ {Key R : Type 0} (K : Keys Key) (L : KeyLaws K) (f : Frames Out Key R) (c : ℕ) (still : (n : ℕ) → f .segmentOf (damage n) ≡ none)
+    (known : (o : Out) (g : Segment Key) → f .segmentOf o ≡ some g → K .given (g .key) ≡ true) where
   abbrev pub hurt : ℕ → R
   hurt n = f .plain (damage n)
 
-  kept-by : (y : Option (Segment Key)) (o : Out) (s : List (Slot Key)) (a : List ℕ) → passes K c s ≡ true → sizedFor c a ≡ true
+  kept-by : (y : Option (Segment Key)) (o : Out) (s : List (Slot Key)) (a : List ℕ) → f .segmentOf o ≡ y → passes K c s ≡ true → sizedFor c a ≡ true
       → (passes K c (actOn K f y o s a .1) ≡ true) × (sizedFor c (actOn K f y o s a .2) ≡ true)
-  kept-by none o s a p z = (p, z)
-  kept-by (some g) o s a p z = passes-rebuild K L c g s a p z
+  kept-by none o s a e p z = (p, z)
+  kept-by (some g) o s a e p z = passes-rebuild K L c g s a (known o g e) p z
 
   -- what frames and forget orders do keeps what 59 and 60 ask
   pub keeps : Keeps (rules K f) hurt (passes K c) (sizedFor c)
   keeps = record {
     calm = λ n s a. rw (still n);
-    slots = λ o s a p z. kept-by (f .segmentOf o) o s a p z .0;
-    area = λ o s a p z. kept-by (f .segmentOf o) o s a p z .1;
+    slots = λ o s a p z. kept-by (f .segmentOf o) o s a refl p z .0;
+    area = λ o s a p z. kept-by (f .segmentOf o) o s a refl p z .1;
     free = λ n s p. passes-forget K L c n s p;
   }
 

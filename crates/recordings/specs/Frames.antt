@@ -10,7 +10,7 @@ use Rattle.messages.specs.Rows.{Answer, rebuild, forgotten}
 use Rattle.messages.specs.Rows.Answer.{completed}
 use Rattle.messages.specs.History.{Deed, Log, fromStart}
 use Rattle.messages.specs.History.Deed.{segment, forgetting}
-use Rattle.messages.specs.History.Entry.{said, dropped}
+use Rattle.messages.specs.History.Entry.{said, dropped, stood}
 
 -- how outcomes are read and reported: the segment that one carries, the report of one that carries none, and of one that does, from its answer and the area after it
 pub record Frames (O Key R : Type 0) : Type 0 where
@@ -41,7 +41,7 @@ module _ {O Key R : Type 0} (K : Keys Key) (f : Frames O Key R) where
   deeds t p (trunk e ∷ run) = deedsAt (ended p t) ++ deeds t (p + 1) run
   deeds t p (forget n ∷ run) = forgetting n ∷ deeds t p run
 
-  -- the history that a run is: its segments with their answers, latest first
+  -- the history that a run is, latest first: its segments with their answers, and the slots that were open as it began
   abbrev pub history : {M : Type 0} → Trace O M → ℕ → List (Slot Key) → List ℕ → Run → Log Key
   history t p s a run = fromStart K (boxed s a) (deeds t p run) .log
 
@@ -53,3 +53,4 @@ abbrev pub Completes : {Key : Type 0} → Log Key → Key → ℕ → ℕ → Ty
 Completes [] k i n = ⊥
 Completes (said g w ∷ old) k i n = (g .key ≡ k) × (w ≡ completed i n)
 Completes (dropped j ∷ old) k i n = ⊥
+Completes (stood j m ∷ old) k i n = ⊥

@@ -1,20 +1,20 @@
 use borrow.Author.Needs.{needs}
-use native.Mathlib.Omega.{arith}
-use Prim.Native.Nat.{_+_, _<_}
+use mathlib.Core.Path.{_≡_}
 use denote.Ref.{now}
+use Rattle.messages.specs.Rows as Rules
 use Rattle.rebuild.proofs.Giving.{gives-more, gives-last}
 use Rattle.rebuild.proofs.Numbers.{next-fits}
 use Rattle.rebuild.proofs.rows.settle.Statement.{statement}
 use Rattle.rebuild.proofs.rows.settle.Tie as tie
 
-add-t18 : tie.Need-add-t18
-add-t18 c =
-    let a = c .before .before .before .before .before .before .before .before .before .args in
-    let h : a .g .number + 1 < 256 = next-fits (a .g .number) (a .g .mor) (search needs) (c .before .before .before .before .before .before .before .before .before .pre .1) (c .before .before .if1 .taken) in
-    omega arith
+next-number-requires : tie.Need-next-number-requires
+next-number-requires c κs = let a = c .before .before .before .before .before .before .before .before .args in next-fits (a .g .number) (a .g .mor) (search needs) (c .before .before .before .before .before .before .before .before .pre .1) (c .before .if1 .taken)
 
 returns : tie.Need-returns
-returns c = let a = c .before .before .before .before .before .before .before .before .before .before .args in gives-more (a .t) (now (a .area)) (a .g) (now (a .octets)) (a .s) (a .n) _ _ (c .before .before .before .if1 .taken) (c .with-slot .ensures) (c .before .before .before .before .before .before .copy .ensures)
+returns c =
+    let a = c .before .before .before .before .before .before .before .before .before .before .args in
+    let next : _ ≡ Rules.nextNumber (a .g .number) = c .before .next-number .ensures in
+    gives-more (a .t) (now (a .area)) (a .g) (now (a .octets)) (a .s) (a .n) _ _ (c .before .before .before .if1 .taken) (rw next at (c .with-slot .ensures)) (c .before .before .before .before .before .before .copy .ensures)
 
 returns-2 : tie.Need-returns-2
 returns-2 c = let a = c .before .before .before .before .before .before .before .before .args in gives-last (a .t) (now (a .area)) (a .g) (now (a .octets)) (a .s) (a .n) _ _ (c .before .if1 .left) (c .with-slot2 .ensures) (c .before .before .before .before .copy .ensures)
@@ -29,7 +29,7 @@ settle-spec =
     (λ c. search needs)
     (λ c. search needs)
     (λ c. search needs)
-    add-t18
+    next-number-requires
     (λ c κs. search needs)
     (λ c. search needs)
     returns

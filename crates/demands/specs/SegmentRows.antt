@@ -1,0 +1,92 @@
+-- DEMAND 1, the numbers of segments: "Bad input gets the refusal number that document 01 fixes". Each of 51, 52, 53, 55, 54 and 50 exactly when the table says
+-- so of the slots that are open.
+use Prim.Native.Nat.{ℕ}
+use mathlib.Core.Path.{_≡_}
+use mathlib.Core.Logic.{_↔_}
+use mathlib.Core.Bool.{Bool, true, false}
+use mathlib.Core.List.{List, [], _∷_}
+use lib.ListN.{length, replicate}
+use Rattle.messages.specs.Slots.{Segment, Slot, Box, boxed, empty}
+use Rattle.messages.specs.Rows.{Answer, rebuild}
+use Rattle.messages.specs.Rows.Answer.{refused, taken, completed}
+use Rattle.messages.specs.Table.{Answers}
+use Rattle.rebuild.specs.View.{keys, view, segmentOf}
+use Rattle.rebuild.specs.Calls as Rebuild
+use Rattle.rebuild.specs.declared.Key.{Key}
+use Rattle.rebuild.specs.declared.Slots.{Slots}
+use Rattle.rebuild.specs.declared.Segment.{Segment as Head}
+use Rattle.rebuild.specs.declared.Taken.{Taken}
+use Rattle.demands.specs.Words.{BrokenSlots}
+
+-- "No. | Given exactly when", "by row order", and "A segment without MOR completes": w is the answer to a segment exactly when the rows' words give it, from
+-- slots that 59 does not name. `Answers` (messages/Table) has each row's words
+abbrev pub SegmentRows : Type 0
+SegmentRows = (g : Segment Key) (b : Box Key) → (BrokenSlots (b .slots) → ⊥) → (w : Answer) → (rebuild keys g b .answer ≡ w) ↔ Answers keys g b w
+
+-- the same of the call, by its promise, in an area of 65,536 octets
+abbrev pub TakeRows : Type 0
+TakeRows = (t : Slots) (g : Head) (o area : List ℕ) (r : Taken) (later : List ℕ) → Rebuild.Gives (Rebuild.taking t g o area) r later → length area ≡ 65536
+    → (BrokenSlots (view t) → ⊥) → (w : Answer) → (r .answer ≡ Rebuild.stepOf w) ↔ Answers keys (segmentOf g o) (boxed (view t) area) w
+
+-- ---- worked: segments in a row over four slots, each number once
+-- the answers to segments, one after another
+abbrev pub answersTo : Box Key → List (Segment Key) → List Answer
+answersTo b [] = []
+answersTo b (g ∷ gs) = rebuild keys g b .answer ∷ answersTo (rebuild keys g b .box) gs
+
+abbrev pub keyOf : ℕ → ℕ → ℕ → ℕ → Key
+keyOf source destination kind invoke = record { source = source; destination = destination; kind = kind; invoke = invoke }
+
+-- a segment with n octets
+abbrev pub segment : Key → ℕ → Bool → ℕ → ℕ → Segment Key
+segment k number mor choice n = record { key = k; number = number; mor = mor; choice = choice; octets = replicate n 29 }
+
+abbrev pub first : Key
+first = keyOf 11 12 0 13
+
+abbrev pub second : Key
+second = keyOf 15 16 3 17
+
+abbrev pub third : Key
+third = keyOf 22 23 0 24
+
+abbrev pub fourth : Key
+fourth = keyOf 31 32 3 33
+
+abbrev pub fifth : Key
+fifth = keyOf 34 35 0 36
+
+abbrev pub sixth : Key
+sixth = keyOf 37 38 3 39
+
+abbrev pub seventh : Key
+seventh = keyOf 40 41 0 42
+
+-- slot 0 three octets short of full, slot 2 awaiting its last number, the others free
+abbrev pub workedSlots : List (Slot Key)
+workedSlots =
+    record { used = true; key = first; next = 21; choice = 14; held = 16381 } ∷ empty keys ∷ record { used = true; key = second; next = 255; choice = 18; held = 19 } ∷ empty keys ∷ []
+
+abbrev pub workedSegments : List (Segment Key)
+workedSegments =
+    segment third 25 true 26 10
+    ∷ segment first 28 true 14 20
+    ∷ segment first 21 true 30 43
+    ∷ segment first 21 true 14 3
+    ∷ segment first 22 true 14 1
+    ∷ segment second 255 true 18 44
+    ∷ segment third 0 true 26 2
+    ∷ segment fourth 0 true 45 6
+    ∷ segment fifth 0 true 46 9
+    ∷ segment sixth 0 true 47 7
+    ∷ segment seventh 0 true 48 49
+    ∷ segment third 1 false 26 3
+    ∷ segment fourth 0 false 50 4
+    ∷ segment seventh 0 true 48 8
+    ∷ []
+
+-- not open; not the next number; another choice; 16,384 octets are held and one more is too many; number 255 with MOR; four keys start and a fifth finds no slot;
+-- the first of them completes; number 0 restarts the second in its slot, with another choice; the fifth goes to the lowest free slot
+abbrev pub SegmentsWorked : Type 0
+SegmentsWorked = (area : List ℕ) → answersTo (boxed workedSlots area) workedSegments
+    ≡ refused 51 ∷ refused 52 ∷ refused 53 ∷ taken 0 16384 ∷ refused 54 ∷ refused 55 ∷ taken 0 2 ∷ taken 1 6 ∷ taken 2 9 ∷ taken 3 7 ∷ refused 50 ∷ completed 0 5 ∷ completed 1 4 ∷ taken 0 8 ∷ []
