@@ -1,24 +1,22 @@
 -- Any two answers that a call's promise allows are equal, and they are the box's.
-use Prim.Native.Nat.{ℕ, _+_, _-_}
-use mathlib.Core.Path.{_≡_, sym, _∙_}
-use mathlib.Core.Bool.{Bool}
-use mathlib.Core.List.{List, [], _∷_, _++_}
+use Prim.Native.Nat.{ℕ}
+use mathlib.Core.Path.{_≡_, refl, sym, ap, subst, _∙_}
+use mathlib.Core.List.{List, []}
 use mathlib.Core.Option.{Option, none, some}
-use lib.ListN.{length, drop}
+use lib.ListN.{length, replicate}
 use borrow.Author.Tests.{eq-eqb}
-use Rattle.octets.specs.Choice.{by-test}
-use Rattle.runs.specs.Run.{Run, octs}
-use Rattle.runs.specs.Run.Event.{silence}
-use Rattle.runs.specs.Run.Order.{trunk}
-use Rattle.runs.specs.Offered.{answer, spoken, Offered}
-use Rattle.runs.specs.Offered.Offered.{over, fed, still, forgot}
+use Rattle.octets.specs.Choice.{pick, by-test}
+use Rattle.runs.specs.Run.{Run}
+use Rattle.runs.specs.Offered.{answer, boxCalls, Offered, Offer, Made}
+use Rattle.runs.proofs.Carrying.{Carries, carried}
 use Rattle.frames.specs.declared.Receiver.{Receiver}
 use Rattle.messages.specs.Slots as Messages
+use Rattle.messages.specs.Rows.{forgetNumber}
+use Rattle.rebuild.specs.View.{keys, unview}
 use Rattle.rebuild.specs.declared.Key.{Key}
-use Rattle.rebuild.proofs.Seen.{view-one}
-use Rattle.collector.specs.Calls.{passing, box, written, saidSo, slotsOf, Answered, feeding, Feeds, stilling, Stills, Forgets}
-use Rattle.collector.specs.Offering.{End, told, Called}
-use Rattle.collector.specs.Offering.Called.{over as none-left, fed as feeds, still as stills, forgot as forgets}
+use Rattle.rebuild.proofs.Seen.{view-one, view-unview}
+use Rattle.collector.specs.Calls.{passing, sound, box, written, saidSo, slotsOf, Answered, feedRefusal, feeding, Feeds, silenceRefusal, stilling, Stills, Forgets}
+use Rattle.collector.specs.Offering.{End, told, Kept, calls, Called}
 use Rattle.collector.specs.declared.Collector.{Collector}
 use Rattle.collector.specs.declared.Fed.{Fed}
 use Rattle.collector.specs.declared.Fell.{Fell}
@@ -51,44 +49,129 @@ forgets-one c n {r₁ = r₁} {r₂ = r₂} a b =
     λ i. record { number = m i; state = record { receiver = v i; slots = s i } }
 
 -- ---- the box's answer
-told-said : (x : Option (List ℕ)) (b : Bool) (report report′ : List ℕ) → b ≡ saidSo x → report′ ≡ written x report → told b report′ ≡ x
-told-said none b report report′ e q = rw e
-told-said (some y) b report report′ e q = rw (e, q)
+pub told-said : (x : Option (List ℕ)) (report : List ℕ) → told (saidSo x) (written x report) ≡ x
+told-said none report = refl
+told-said (some y) report = refl
 
 -- with a report area of 16 octets a piece's answer is the box's
-feeding-box : (c : Collector) (report area piece : List ℕ) → length report ≡ 16 → feeding c report area piece ≡ box .feed (c .receiver) (slotsOf c) area piece
+pub feeding-box : (c : Collector) (report area piece : List ℕ) → length report ≡ 16 → feeding c report area piece ≡ box .feed (c .receiver) (slotsOf c) area piece
 unfolding feeding
 feeding-box c report area piece k = rw (eq-eqb (length report) 16 k)
 
-pub feeds-box : (c : Collector) (report area piece : List ℕ) {report′ area′ : List ℕ} {r : Fed} → length report ≡ 16 → Feeds c report area piece r report′ area′
-    → answer (r .eaten) (told (r .reported) report′) (r .state .receiver) (slotsOf (r .state)) area′ ≡ box .feed (c .receiver) (slotsOf c) area piece
-feeds-box c report area piece {report′} {r = r} k h =
-    let d = feeding c report area piece in
-    rw (h .eaten, told-said (d .said) (r .reported) report report′ (h .reported) (h .reportAfter), h .receiver, h .slots, h .areaAfter) (feeding-box c report area piece k)
-
 -- a silence's answer does not look at the area
-stilling-box : (c : Collector) (report area : List ℕ) → length report ≡ 16
+pub stilling-box : (c : Collector) (report area : List ℕ) → length report ≡ 16
     → (let d = stilling c report [] in answer 0 (d .said) (d .state) (d .slots) area ≡ box .still (c .receiver) (slotsOf c) area)
 unfolding stilling
 stilling-box c report area k = rw (eq-eqb (length report) 16 k) (by-test (passing (slotsOf c)) (λ e. rw e) (λ e. rw e))
 
-pub stills-box : (c : Collector) (report area : List ℕ) {report′ : List ℕ} {r : Fell} → length report ≡ 16 → Stills c report r report′
-    → answer 0 (told (r .reported) report′) (r .state .receiver) (slotsOf (r .state)) area ≡ box .still (c .receiver) (slotsOf c) area
-stills-box c report area {report′} {r} k h =
-    let d = stilling c report [] in
-    rw (told-said (d .said) (r .reported) report report′ (h .reported) (h .reportAfter), h .receiver, h .slots) (stilling-box c report area k)
+-- ---- a collector with its area, as the box sees it
+abbrev pub Boxed : Type 0
+Boxed = Receiver × List (Messages.Slot Key) × List ℕ
 
--- ---- every way of making the calls is a way of offering the run to the box
-offer-fed : {p : ℕ} {m : Receiver} {s : List (Messages.Slot Key)} {a : List ℕ} {e : End} (piece : List ℕ) (run : Run) (d : Answered) → d ≡ box .feed m s a piece
-    → Offered box (p + d .eaten) (d .state) (d .slots) (d .area) (octs (drop (d .eaten) piece) ++ run) e → Offered box p m s a (octs piece ++ run) (spoken (p + d .eaten - 1) (d .said) e)
-offer-fed piece run d q o = rw q (fed piece run (rw q at o))
+abbrev pub seen : Kept → Boxed
+seen s = (s .0 .receiver, slotsOf (s .0), s .1)
 
-offer-still : {p : ℕ} {m : Receiver} {s : List (Messages.Slot Key)} {a : List ℕ} {run : Run} {e : End} (d : Answered) → d ≡ box .still m s a
-    → Offered box (p + 1) (d .state) (d .slots) (d .area) run e → Offered box p m s a (trunk silence ∷ run) (spoken p (d .said) e)
-offer-still d q o = rw q (still (rw q at o))
+-- every call is the box's
+pub called : Carries calls (boxCalls box) (λ s x. x ≡ seen s)
+called =
+    record {
+      feeds = λ s t x piece n said e h.
+          let d = feeding (s .0) (h .report) (s .1) piece in
+          let y = h .promise in (
+            seen t,
+            rw (e, h .ate, h .says, h .leaves, y .eaten, y .reported, y .reportAfter, told-said (d .said) (h .report), y .receiver, y .slots, y .areaAfter)
+                (feeding-box (s .0) (h .report) (s .1) piece (h .sixteen)),
+            refl,
+          );
+      stills = λ s t x said e h.
+          let d = stilling (s .0) (h .report) [] in
+          let y = h .promise in (
+            seen t,
+            rw (e, h .says, h .leaves, h .area, y .reported, y .reportAfter, told-said (d .said) (h .report), y .receiver, y .slots)
+                (stilling-box (s .0) (h .report) (s .1) (h .sixteen)),
+            refl,
+          );
+      forgets = λ s t x i e h. (seen t, rw (e, h .leaves, h .area, h .promise .receiver, h .promise .slots), refl);
+    }
 
-pub called : {p : ℕ} {c : Collector} {area : List ℕ} {run : Run} {e : End} → Called p c area run e → Offered box p (c .receiver) (slotsOf c) area run e
-called none-left = over
-called {c = c} {area = area} (feeds piece run report r report′ area′ k h o) = offer-fed piece run _ (feeds-box c report area piece k h) (called o)
-called {c = c} {area = area} (stills report r report′ k h o) = offer-still _ (stills-box c report area k h) (called o)
-called (forgets n r h o) = forgot n (rw (h .receiver, h .slots) at (called o))
+-- ---- and every call of the box can be made: a report area of 16 octets
+blank : List ℕ
+blank = replicate 16 0
+
+sixteen : length blank ≡ 16
+unfolding blank
+sixteen = refl
+
+abbrev put : Boxed → Kept
+put x = (record { receiver = x .0; slots = unview (x .1) }, x .2)
+
+seen-put : (x : Boxed) → x ≡ seen (put x)
+seen-put x = rw (view-unview (x .1))
+
+pub calling : Carries (boxCalls box) calls (λ x s. x ≡ seen s)
+calling =
+    record {
+      feeds = λ x y s piece n said e q.
+          let c = s .0 in
+          let d : answer n said (y .0) (y .1) (y .2) ≡ feeding c blank (s .1) piece = rw e at q ∙ sym (feeding-box c blank (s .1) piece sixteen) in (
+            put y,
+            record {
+              report = blank;
+              report′ = written said blank;
+              answer = record { refused = feedRefusal c blank (s .1); eaten = n; reported = saidSo said; state = put y .0 };
+              sixteen = sixteen;
+              promise = rw (← d) (record { refused = refl; eaten = refl; reported = refl; receiver = refl; slots = view-unview (y .1); reportAfter = refl; areaAfter = refl });
+              ate = refl;
+              says = sym (told-said said blank);
+              leaves = refl;
+            },
+            seen-put y,
+          );
+      stills = λ x y s said e q.
+          let c = s .0 in
+          let f = stilling c blank [] in
+          let d : answer 0 said (y .0) (y .1) (y .2) ≡ answer 0 (f .said) (f .state) (f .slots) (s .1) = rw e at q ∙ sym (stilling-box c blank (s .1) sixteen) in (
+            put y,
+            record {
+              report = blank;
+              report′ = written said blank;
+              answer = record { refused = silenceRefusal c blank; reported = saidSo said; state = put y .0 };
+              sixteen = sixteen;
+              promise = record {
+                refused = refl;
+                reported = ap (λ (x : Answered). saidSo (x .said)) d;
+                receiver = ap (λ (x : Answered). x .state) d;
+                slots = view-unview (y .1) ∙ ap (λ (x : Answered). x .slots) d;
+                reportAfter = ap (λ (x : Answered). written (x .said) blank) d;
+              };
+              says = sym (told-said said blank);
+              leaves = refl;
+              area = ap (λ (x : Answered). x .area) d;
+            },
+            seen-put y,
+          );
+      forgets = λ x y s i e q.
+          let c = s .0 in
+          let d : y ≡ (c .receiver, box .free i (c .receiver) (slotsOf c), s .1) = rw e at q in (
+            put y,
+            record {
+              answer = record { number = pick (sound (c .receiver) (slotsOf c)) (forgetNumber keys i (slotsOf c)) 59; state = put y .0 };
+              promise = record { number = refl; receiver = ap (λ (x : Boxed). x .0) d; slots = view-unview (y .1) ∙ ap (λ (x : Boxed). x .1) d };
+              leaves = refl;
+              area = ap (λ (x : Boxed). x .2) d;
+            },
+            seen-put y,
+          );
+    }
+
+-- ---- every way of making the calls is a way of offering the run to the box, and the other way round
+pub offered-to : {p : ℕ} {c : Collector} {area : List ℕ} {run : Run} {e : End} → Called p c area run e → Offered box p (c .receiver) (slotsOf c) area run e
+offered-to {p} {c} {area} {run} {e} o =
+    let w = carried called {u = seen (c, area)} refl (o .1) in
+    subst (λ (y : Boxed). Offer (Made (boxCalls box)) p (seen (c, area)) run (e .reports) y) (rw (w .2, o .2, o .3)) (w .1)
+
+pub called-by : {p : ℕ} {c : Collector} {area : List ℕ} {run : Run} {e : End} → Offered box p (c .receiver) (slotsOf c) area run e → Called p c area run e
+called-by {p} {c} {area} {run} {e} o =
+    let w = carried calling {u = (c, area)} refl o in
+    let q : (e .state, e .slots, e .area) ≡ seen (w .0) = w .2 in
+    (w .0 .0, subst (λ (a : List ℕ). Offer (Made calls) p (c, area) run (e .reports) (w .0 .0, a)) (sym (ap (λ (x : Boxed). x .2) q)) (w .1), sym (ap (λ (x : Boxed). x .0) q), sym (ap (λ (x : Boxed). x .1) q))

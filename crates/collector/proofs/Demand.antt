@@ -34,17 +34,20 @@ use Rattle.collector.specs.Calls.{slotCount, box, slotsOf}
 use Rattle.collector.specs.Offering.{Passes, End, Called}
 use Rattle.collector.specs.declared.Collector.{Collector}
 use Rattle.collector.proofs.Actions.{acts-segment}
-use Rattle.collector.proofs.Alike.{called}
+use Rattle.collector.proofs.Alike.{offered-to, called-by}
 
 module _ (c : Collector) (area : List ℕ) (P : Passes c) (z : length area ≡ 65536) where
   -- "one run of trunk octets with silences and forget orders at fixed places, from any state that passes 59": "Then reports, final state and
   -- message area are those that a reading of the whole recording by position gives."
   pub demand3 : {run : Run} {e : End} → Called (length (heldOf (c .receiver))) c area run e → e ≡ reading (rules keys bacnet) (c .receiver) (slotsOf c) area run
-  demand3 o = whole keys key-laws bacnet slotCount (λ n. refl) (λ o g e. refl) (P .receiver) (P .slots) (eq-eqb (length area) 65536 z) (called o)
+  demand3 o = whole keys key-laws bacnet slotCount (λ n. refl) (λ o g e. refl) (P .receiver) (P .slots) (eq-eqb (length area) 65536 z) (offered-to o)
 
-  -- every run can be offered to the box
-  pub offered : (run : Run) → (e : End) × Offered box (length (heldOf (c .receiver))) (c .receiver) (slotsOf c) area run e
-  offered run = offerable keys key-laws bacnet slotCount (λ n. refl) (λ o g e. refl) run (c .receiver) (slotsOf c) area (P .receiver) (P .slots) (eq-eqb (length area) 65536 z)
+  -- every run can be offered to the box, and so by the calls
+  pub boxed-way : (run : Run) → (e : End) × Offered box (length (heldOf (c .receiver))) (c .receiver) (slotsOf c) area run e
+  boxed-way run = offerable keys key-laws bacnet slotCount (λ n. refl) (λ o g e. refl) run (c .receiver) (slotsOf c) area (P .receiver) (P .slots) (eq-eqb (length area) 65536 z)
+
+  pub some-way : (run : Run) → (e : End) × Called (length (heldOf (c .receiver))) c area run e
+  some-way run = let w = boxed-way run in (w .0, called-by (w .1))
 
   -- "Each message begun and completed in the run is its key's accepted segments since its latest segment 0, joined in number order": t is the
   -- reading of the whole trunk, front the run up to the place where the last segment ends.

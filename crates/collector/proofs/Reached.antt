@@ -1,6 +1,6 @@
 -- 59 passes a fresh collector, and every state that a run reaches.
-use Prim.Native.Nat.{ℕ, _+_, _-_}
-use mathlib.Core.Path.{_≡_, refl}
+use Prim.Native.Nat.{ℕ, _+_}
+use mathlib.Core.Path.{_≡_, refl, sym, subst}
 use mathlib.Core.Bool.{true}
 use mathlib.Core.List.{List, [], _∷_}
 use mathlib.Core.Option.{Option, none, some}
@@ -8,8 +8,9 @@ use lib.ListN.{length-replicate}
 use Rattle.octets.specs.Choice.{pick-case}
 use Rattle.runs.specs.Run.{Run}
 use Rattle.runs.specs.Run.Event.{octet, silence}
-use Rattle.runs.specs.Offered.{answer, caught, spoken, Offered}
-use Rattle.runs.specs.Offered.Offered.{over, fed, still, forgot}
+use Rattle.runs.specs.Offered.{answer, caught, boxCalls, Made}
+use Rattle.runs.specs.Offered.Made.{feed, still, free}
+use Rattle.runs.proofs.Carrying.{stays}
 use Rattle.frames.specs.declared.Receiver.{Receiver}
 use Rattle.frames.specs.declared.Fed.{Fed}
 use Rattle.frames.specs.Step.{soundOf, stepOf, reportsOf, feedFrom, feedOf, silenceOf, stillOf}
@@ -27,7 +28,7 @@ use Rattle.collector.specs.Frame.{bacnet}
 use Rattle.collector.specs.Calls.{slotCount, passing, sized, box, freshCollector, Answered}
 use Rattle.collector.specs.Offering.{Passes, End, Called}
 use Rattle.collector.specs.declared.Collector.{Collector}
-use Rattle.collector.proofs.Alike.{called}
+use Rattle.collector.proofs.Alike.{Boxed, offered-to}
 
 pub fresh : Passes freshCollector
 fresh = record { receiver = record { left = refl; head = length-replicate {A = ℕ} 5 0; store = length-replicate {A = ℕ} 501 0 }; slots = fresh-passes }
@@ -57,7 +58,7 @@ pub record Fair (m : Receiver) (s : List (Messages.Slot Key)) (a : List ℕ) : T
   pub slots : passing s ≡ true
   pub area : sized a ≡ true
 
-abbrev FairAnswer : Answered → Type 0
+abbrev pub FairAnswer : Answered → Type 0
 FairAnswer d = Fair (d .state) (d .slots) (d .area)
 
 module _ {m : Receiver} {s : List (Messages.Slot Key)} {a : List ℕ} (F : Fair m s a) where
@@ -66,31 +67,27 @@ module _ {m : Receiver} {s : List (Messages.Slot Key)} {a : List ℕ} (F : Fair 
   caught-fair (some o) n =
       record { receiver = F .receiver; slots = keeps .slots o s a (F .slots) (F .area); area = keeps .area o s a (F .slots) (F .area) }
 
-  free-fair : (n : ℕ) → Fair m (box .free n m s) a
+  pub free-fair : (n : ℕ) → Fair m (box .free n m s) a
   free-fair n = rw (F .slots, F .receiver .left) (record { receiver = F .receiver; slots = keeps .free n s (F .slots); area = F .area })
 
-  still-fair : FairAnswer (box .still m s a)
+  pub still-fair : FairAnswer (box .still m s a)
   still-fair = rw (F .slots) (record { receiver = silence-sound m (F .receiver); slots = F .slots; area = F .area })
 
-feed-fair : {m : Receiver} {s : List (Messages.Slot Key)} {a : List ℕ} → Fair m s a → (xs : List ℕ) → FairAnswer (box .feed m s a xs)
+pub feed-fair : {m : Receiver} {s : List (Messages.Slot Key)} {a : List ℕ} → Fair m s a → (xs : List ℕ) → FairAnswer (box .feed m s a xs)
 feed-fair {m} {s} {a} F xs =
     let f = feedOf m xs in
     let G : Fair (f .receiver) s a = record { receiver = feed-sound m xs (F .receiver); slots = F .slots; area = F .area } in
     rw (F .area, F .slots) (caught-fair G (outOf (f .outcome) (f .receiver)) (f .eaten))
 
-abbrev FairEnd : End → Type 0
-FairEnd e = Fair (e .state) (e .slots) (e .area)
+abbrev pub FairAt : Boxed → Type 0
+FairAt x = Fair (x .0) (x .1) (x .2)
 
-spoken-fair : (p : ℕ) (x : Option (List ℕ)) (e : End) → FairEnd e → FairEnd (spoken p x e)
-spoken-fair p none e h = h
-spoken-fair p (some r) e h = record { receiver = h .receiver; slots = h .slots; area = h .area }
-
-ended-fair : {p : ℕ} {m : Receiver} {s : List (Messages.Slot Key)} {a : List ℕ} {run : Run} {e : End} → Fair m s a → Offered box p m s a run e → FairEnd e
-ended-fair F over = F
-ended-fair {p} {m} {s} {a} F (fed {e = e} piece run o) = let d = box .feed m s a piece in spoken-fair (p + d .eaten - 1) (d .said) e (ended-fair (feed-fair F piece) o)
-ended-fair {p} {m} {s} {a} F (still {e = e} o) = spoken-fair p (box .still m s a .said) e (ended-fair (still-fair F) o)
-ended-fair F (forgot n o) = ended-fair (free-fair F n) o
+made-fair : {x y : Boxed} {lent : Run} {n : ℕ} {said : Option (List ℕ)} → FairAt x → Made (boxCalls box) x lent n said y → FairAt y
+made-fair F (feed piece q) = subst FairAnswer (sym q) (feed-fair F piece)
+made-fair F (still q) = subst FairAnswer (sym q) (still-fair F)
+made-fair F (free i q) = subst FairAt (sym q) (free-fair F i)
 
 -- after any run, however its calls are made
 pub reached : {p : ℕ} {c : Collector} {area : List ℕ} {run : Run} {e : End} → Passes c → sized area ≡ true → Called p c area run e → Fair (e .state) (e .slots) (e .area)
-reached P z o = ended-fair (record { receiver = P .receiver; slots = P .slots; area = z }) (called o)
+reached P z o =
+    stays (Made (boxCalls box)) FairAt (λ x y lent n said F c. made-fair F c) (record { receiver = P .receiver; slots = P .slots; area = z }) (offered-to o)

@@ -1,14 +1,12 @@
 -- Every way of making the calls for one run, each with any answer that it promises.
-use Prim.Native.Nat.{ℕ, _+_, _-_}
+use Prim.Native.Nat.{ℕ}
 use mathlib.Core.Path.{_≡_}
 use mathlib.Core.Bool.{Bool, true, false}
-use mathlib.Core.List.{List, [], _∷_, _++_}
+use mathlib.Core.List.{List}
 use mathlib.Core.Option.{Option, none, some}
-use lib.ListN.{length, drop}
-use Rattle.runs.specs.Run.{Run, octs, Ends, ends}
-use Rattle.runs.specs.Run.Event.{silence}
-use Rattle.runs.specs.Run.Order.{trunk, forget}
-use Rattle.runs.specs.Offered.{spoken}
+use lib.ListN.{length}
+use Rattle.runs.specs.Run.{Run, Ends}
+use Rattle.runs.specs.Offered.{Calls, Made, Offer}
 use Rattle.frames.specs.declared.Receiver.{Receiver}
 use Rattle.trunk.specs.Demand.{Sound}
 use Rattle.messages.specs.Slots as Messages
@@ -34,19 +32,43 @@ abbrev pub told : Bool → List ℕ → Option (List ℕ)
 told true report = some report
 told false report = none
 
+-- ---- the calls, each with any answer that its promise allows: a state is the collector with the message area
+abbrev pub Kept : Type 0
+Kept = Collector × List ℕ
+
+-- a piece, lent a report area of 16 octets, whatever stands in it
+pub record Feeding (s : Kept) (piece : List ℕ) (eaten : ℕ) (said : Option (List ℕ)) (t : Kept) : Type 0 where
+  pub report : List ℕ
+  pub report′ : List ℕ
+  pub answer : Fed
+  pub sixteen : length report ≡ reportSize
+  pub promise : Feeds (s .0) report (s .1) piece answer report′ (t .1)
+  pub ate : eaten ≡ answer .eaten
+  pub says : said ≡ told (answer .reported) report′
+  pub leaves : t .0 ≡ answer .state
+
+-- a silence, lent such a report area; the message area is not lent
+pub record Stilling (s : Kept) (said : Option (List ℕ)) (t : Kept) : Type 0 where
+  pub report : List ℕ
+  pub report′ : List ℕ
+  pub answer : Fell
+  pub sixteen : length report ≡ reportSize
+  pub promise : Stills (s .0) report answer report′
+  pub says : said ≡ told (answer .reported) report′
+  pub leaves : t .0 ≡ answer .state
+  pub area : t .1 ≡ s .1
+
+-- a forget order: nothing is lent
+pub record Forgetting (i : ℕ) (s t : Kept) : Type 0 where
+  pub answer : Forgot
+  pub promise : Forgets (s .0) i answer
+  pub leaves : t .0 ≡ answer .state
+  pub area : t .1 ≡ s .1
+
+abbrev pub calls : Calls Kept (List ℕ)
+calls = record { Feeds = Feeding; Stills = Stilling; Forgets = Forgetting }
+
 -- "Cut the octets anywhere, offer the rest again after each report": from a state and a message area, with a run left to offer whose trunk goes on
--- at place p. Each call is lent a report area of 16 octets, whatever stands in it, and gives any answer that its promise allows.
-pub data Called : ℕ → Collector → List ℕ → Run → End → Type 0 where
-  over : {p : ℕ} {c : Collector} {area : List ℕ} → Called p c area [] (ends [] (c .receiver) (slotsOf c) area)
-  fed : {p : ℕ} {c : Collector} {area : List ℕ} {e : End} (piece : List ℕ) (run : Run) (report : List ℕ) (r : Fed) (report′ area′ : List ℕ)
-      → length report ≡ reportSize → Feeds c report area piece r report′ area′
-      → Called (p + r .eaten) (r .state) area′ (octs (drop (r .eaten) piece) ++ run) e
-      → Called p c area (octs piece ++ run) (spoken (p + r .eaten - 1) (told (r .reported) report′) e)
-  still : {p : ℕ} {c : Collector} {area : List ℕ} {run : Run} {e : End} (report : List ℕ) (r : Fell) (report′ : List ℕ)
-      → length report ≡ reportSize → Stills c report r report′
-      → Called (p + 1) (r .state) area run e
-      → Called p c area (trunk silence ∷ run) (spoken p (told (r .reported) report′) e)
-  forgot : {p : ℕ} {c : Collector} {area : List ℕ} {run : Run} {e : End} (n : ℕ) (r : Forgot)
-      → Forgets c n r
-      → Called p (r .state) area run e
-      → Called p c area (forget n ∷ run) e
+-- at place p; the last state as the rules see it
+abbrev pub Called : ℕ → Collector → List ℕ → Run → End → Type 0
+Called p c area run e = (d : Collector) × Offer (Made calls) p (c, area) run (e .reports) (d, e .area) × (d .receiver ≡ e .state) × (slotsOf d ≡ e .slots)

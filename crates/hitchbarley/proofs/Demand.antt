@@ -1,16 +1,13 @@
 -- Demand 3 over the exported calls: from an area that holds a state, each call is the collector's own call of that state and leaves an area that holds
 -- the collector's later state, so every promise carries over.
-use Prim.Native.Nat.{ℕ, _+_, _-_}
+use Prim.Native.Nat.{ℕ}
 use mathlib.Core.Path.{_≡_, refl, sym, ap, subst, _∙_}
 use mathlib.Core.Bool.{Bool, true, false}
-use mathlib.Core.List.{List, [], _∷_, _++_}
-use mathlib.Core.Option.{Option, none, some}
+use mathlib.Core.List.{List, []}
 use lib.ListN.{length}
 use borrow.Author.Tests.{eq-eqb}
-use Rattle.runs.specs.Run.{Run, octs, ends}
-use Rattle.runs.specs.Run.Event.{silence}
-use Rattle.runs.specs.Run.Order.{trunk}
-use Rattle.runs.specs.Offered.{spoken}
+use Rattle.runs.specs.Run.{Run, ends}
+use Rattle.runs.proofs.Carrying.{Carries, carried}
 use Rattle.trunk.specs.Reading.{heldOf}
 use Rattle.trunk.specs.Demand.{reading}
 use Rattle.rebuild.specs.View.{keys}
@@ -20,7 +17,8 @@ use Rattle.recordings.specs.Frames.{rules}
 use Rattle.collector.specs.Calls as Calls
 use Rattle.collector.specs.Calls.{slotsOf, saidSo, feedRefusal, feeding, silenceRefusal, stilling}
 use Rattle.collector.specs.Frame.{bacnet}
-use Rattle.collector.specs.Offering.{Passes, End, told, Called}
+use Rattle.collector.specs.Offering as Collecting
+use Rattle.collector.specs.Offering.{Passes, End, told, Kept}
 use Rattle.collector.specs.declared.Collector.{Collector}
 use Rattle.collector.specs.declared.Fed.{Fed}
 use Rattle.collector.specs.declared.Fell.{Fell}
@@ -28,9 +26,9 @@ use Rattle.collector.proofs.Demand.{demand3}
 use Rattle.records.specs.Flag.{flag}
 use Rattle.state.specs.Calls.{Loaded, Loads}
 use Rattle.hitchbarley.specs.Trunk.{Left, stateBy, stateOf, passed, bar, inside, feedBar, feedLeft, silenceBar, silenceLeft, forgetNumberOf, forgotten, forgetLeft, Feeds, Stills, Forgets}
-use Rattle.hitchbarley.specs.Offering.{Heard, toldBy, Linked}
+use Rattle.hitchbarley.specs.Offering.{Heard, toldBy, Areas, calls, Linked}
 
-inside-is : (state : List ℕ) (c : Collector) → Loads state c → inside state ≡ c
+pub inside-is : (state : List ℕ) (c : Collector) → Loads state c → inside state ≡ c
 inside-is state c l = ap (λ (x : Loaded). x .state) l
 
 -- ---- one call: its flag and the state that it leaves are those of the collector's call
@@ -95,44 +93,54 @@ forgets-carried state n c l y =
     let q : forgetLeft state n .number ≡ forgetNumberOf c n = rw (z, i) in
     (forgotten c n, record { number = y .number ∙ q; receiver = refl; slots = view-unview _ }, rw i at (y .again z))
 
--- ---- a run
--- the end of the collector that a state area holds
-abbrev endBy : Heard → Collector → End
-endBy h d = ends (h .reports) (d .receiver) (slotsOf d) (h .area)
+-- ---- every call is the collector's, between a state area that holds a state and that state
+told-flag : (reported : ℕ) (b : Bool) (x : List ℕ) → reported ≡ flag b → toldBy reported x ≡ told b x
+told-flag reported true x e = rw e
+told-flag reported false x e = rw e
 
-end-spoken : (p : ℕ) (o : Option (List ℕ)) (h : Heard) (d : Collector) → spoken p o (endBy h d) ≡ endBy (spoken p o h) d
-end-spoken p none h d = refl
-end-spoken p (some x) h d = refl
+abbrev HoldsIt : Areas → Kept → Type 0
+HoldsIt s u = Loads (s .0) (u .0) × (u .1 ≡ s .1)
 
-told-flag : (b : Bool) (x : List ℕ) → told b x ≡ toldBy (flag b) x
-told-flag true x = refl
-told-flag false x = refl
-
--- a report leaves the state area as it is
-loads-on : (p : ℕ) (o : Option (List ℕ)) (h : Heard) (d : Collector) → Loads (h .state) d → Loads (spoken p o h .state) d
-loads-on p none h d l = l
-loads-on p (some x) h d l = l
-
-told-end : (p reported : ℕ) (b : Bool) (x : List ℕ) (h : Heard) (d : Collector) → reported ≡ flag b → spoken p (told b x) (endBy h d) ≡ endBy (spoken p (toldBy reported x) h) d
-told-end p reported b x h d e = rw (told-flag b x, e) (end-spoken p (toldBy (flag b) x) h d)
-
-pub linked : {p : ℕ} {state area : List ℕ} {run : Run} {h : Heard} → Linked p state area run h → (c : Collector) → Loads state c
-    → (d : Collector) × Called p c area run (endBy h d) × Loads (h .state) d
-linked Linked.over c l = (c, Called.over, l)
-linked {p} {state} {area} (Linked.fed {e = h} piece run report r eaten reported state′ report′ area′ k m y rest) c l =
-    let g = feeds-carried state report area piece c l k m y in
-    let t = linked rest (g .1) (g .4) in
-    let w = Called.fed piece run report (fedBy r eaten (g .0) (g .1)) report′ area′ k (g .3) (t .1) in
-    (t .0, subst (Called p c area (octs piece ++ run)) (told-end (p + eaten - 1) reported (g .0) report′ h (t .0) (g .2)) w, loads-on (p + eaten - 1) (toldBy reported report′) h (t .0) (t .2))
-linked {p} {state} {area} (Linked.still {run = run} {e = h} report r reported state′ report′ k y rest) c l =
-    let g = stills-carried state report c l k y in
-    let t = linked rest (g .1) (g .4) in
-    let w = Called.still report (fellBy r (g .0) (g .1)) report′ k (g .3) (t .1) in
-    (t .0, subst (Called p c area (trunk silence ∷ run)) (told-end p reported (g .0) report′ h (t .0) (g .2)) w, loads-on p (toldBy reported report′) h (t .0) (t .2))
-linked {state = state} (Linked.forgot n r state′ y rest) c l =
-    let g = forgets-carried state n c l y in
-    let t = linked rest (g .0) (g .2) in
-    (t .0, Called.forgot n (record { number = r; state = g .0 }) (g .1) (t .1), t .2)
+linked : Carries calls Collecting.calls HoldsIt
+linked =
+    record {
+      feeds = λ s t u piece n said a h.
+          let g = feeds-carried (s .0) (h .report) (s .1) piece (u .0) (a .0) (h .sixteen) (h .sized) (h .promise) in (
+            (g .1, t .1),
+            record {
+              report = h .report;
+              report′ = h .report′;
+              answer = fedBy (h .number) n (g .0) (g .1);
+              sixteen = h .sixteen;
+              promise = rw (a .1) (g .3);
+              ate = refl;
+              says = h .says ∙ told-flag (h .reported) (g .0) (h .report′) (g .2);
+              leaves = refl;
+            },
+            (g .4, refl),
+          );
+      stills = λ s t u said a h.
+          let g = stills-carried (s .0) (h .report) (u .0) (a .0) (h .sixteen) (h .promise) in (
+            (g .1, t .1),
+            record {
+              report = h .report;
+              report′ = h .report′;
+              answer = fellBy (h .number) (g .0) (g .1);
+              sixteen = h .sixteen;
+              promise = g .3;
+              says = h .says ∙ told-flag (h .reported) (g .0) (h .report′) (g .2);
+              leaves = refl;
+              area = h .area ∙ sym (a .1);
+            },
+            (g .4, refl),
+          );
+      forgets = λ s t u i a h.
+          let g = forgets-carried (s .0) i (u .0) (a .0) (h .promise) in (
+            (g .0, t .1),
+            record { answer = record { number = h .number; state = g .0 }; promise = g .1; leaves = refl; area = h .area ∙ sym (a .1) },
+            (g .2, refl),
+          );
+    }
 
 -- "Then reports, final state and message area are those that a reading of the whole recording by position gives."
 pub octets-demand3 : (state : List ℕ) (c : Collector) (area : List ℕ) → Loads state c → Passes c → length area ≡ 65536 → (run : Run) (h : Heard)
@@ -140,11 +148,12 @@ pub octets-demand3 : (state : List ℕ) (c : Collector) (area : List ℕ) → Lo
     → (let e = reading (rules keys bacnet) (c .receiver) (slotsOf c) area run in
     (h .reports ≡ e .reports) × (h .area ≡ e .area) × Loads (h .state) (stateBy (e .state) (e .slots)))
 octets-demand3 state c area l P z run h o =
-    let t = linked o c l in
-    let d = t .0 in
-    let q : endBy h d ≡ reading (rules keys bacnet) (c .receiver) (slotsOf c) area run = demand3 c area P z (t .1) in
+    let t = carried linked {u = (c, area)} (l, refl) o in
+    let d = t .0 .0 in
+    let e : End = ends (h .reports) (d .receiver) (slotsOf d) (t .0 .1) in
+    let q : e ≡ reading (rules keys bacnet) (c .receiver) (slotsOf c) area run = demand3 c area P z (d, t .1, refl, refl) in
     let same : d ≡ stateBy (d .receiver) (slotsOf d) = ap (λ (x : Slots). record { receiver = d .receiver; slots = x }) (sym (unview-view (d .slots))) in (
       ap (λ (x : End). x .reports) q,
-      ap (λ (x : End). x .area) q,
-      subst (λ (x : End). Loads (h .state) (stateBy (x .state) (x .slots))) q (subst (Loads (h .state)) same (t .2)),
+      sym (t .2 .1) ∙ ap (λ (x : End). x .area) q,
+      subst (λ (x : End). Loads (h .state) (stateBy (x .state) (x .slots))) q (subst (Loads (h .state)) same (t .2 .0)),
     )

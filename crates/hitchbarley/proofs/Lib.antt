@@ -6,3 +6,4 @@ pub mod Services
 pub mod Trips
 pub mod One
 pub mod Demand
+pub mod Offerable

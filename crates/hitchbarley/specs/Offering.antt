@@ -1,15 +1,13 @@
 -- Every way of making the exported calls for one run, each with any answer that it promises; the state is octets that the caller keeps.
-use Prim.Native.Nat.{ℕ, _+_, _-_}
+use Prim.Native.Nat.{ℕ}
 use mathlib.Core.Path.{_≡_}
-use mathlib.Core.List.{List, [], _∷_, _++_}
+use mathlib.Core.List.{List}
 use mathlib.Core.Option.{Option, none, some}
 use lib.Dec.{eqb}
-use lib.ListN.{length, drop}
+use lib.ListN.{length}
 use Rattle.octets.specs.Choice.{pick}
-use Rattle.runs.specs.Run.{Run, octs, Ends, ends}
-use Rattle.runs.specs.Run.Event.{silence}
-use Rattle.runs.specs.Run.Order.{trunk, forget}
-use Rattle.runs.specs.Offered.{spoken}
+use Rattle.runs.specs.Run.{Run, Ends}
+use Rattle.runs.specs.Offered.{Calls, Made, Offer}
 use Rattle.collector.specs.Report.{reportSize}
 use Rattle.hitchbarley.specs.Trunk.{Feeds, Stills, Forgets}
 
@@ -17,26 +15,46 @@ use Rattle.hitchbarley.specs.Trunk.{Feeds, Stills, Forgets}
 abbrev pub Heard : Type 0
 Heard = Ends (List ℕ) (Unit {0}) (List ℕ) (List ℕ)
 
-abbrev pub heard : List (ℕ × List ℕ) → List ℕ → List ℕ → Heard
-heard reports state area = ends reports state tt area
-
 -- what stands in the report area is a report where the call says 1
 abbrev pub toldBy : ℕ → List ℕ → Option (List ℕ)
 toldBy reported report = pick (eqb reported 1) (some report) none
 
--- "Cut the octets anywhere, offer the rest again after each report, lend areas of the right sizes that nobody else writes": from a state area and a
--- message area, with a run left to offer whose trunk goes on at place p.
-pub data Linked : ℕ → List ℕ → List ℕ → Run → Heard → Type 0 where
-  over : {p : ℕ} {state area : List ℕ} → Linked p state area [] (heard [] state area)
-  fed : {p : ℕ} {state area : List ℕ} {e : Heard} (piece : List ℕ) (run : Run) (report : List ℕ) (r eaten reported : ℕ) (state′ report′ area′ : List ℕ)
-      → length report ≡ reportSize → length area ≡ 65536 → Feeds state report area piece r eaten reported state′ report′ area′
-      → Linked (p + eaten) state′ area′ (octs (drop eaten piece) ++ run) e
-      → Linked p state area (octs piece ++ run) (spoken (p + eaten - 1) (toldBy reported report′) e)
-  still : {p : ℕ} {state area : List ℕ} {run : Run} {e : Heard} (report : List ℕ) (r reported : ℕ) (state′ report′ : List ℕ)
-      → length report ≡ reportSize → Stills state report r reported state′ report′
-      → Linked (p + 1) state′ area run e
-      → Linked p state area (trunk silence ∷ run) (spoken p (toldBy reported report′) e)
-  forgot : {p : ℕ} {state area : List ℕ} {run : Run} {e : Heard} (n r : ℕ) (state′ : List ℕ)
-      → Forgets state n r state′
-      → Linked p state′ area run e
-      → Linked p state area (forget n ∷ run) e
+-- ---- the calls, each with any answer that its promise allows: a state area with a message area
+abbrev pub Areas : Type 0
+Areas = List ℕ × List ℕ
+
+-- a piece: "lend areas of the right sizes that nobody else writes", whatever stands in the report area
+pub record Feeding (s : Areas) (piece : List ℕ) (eaten : ℕ) (said : Option (List ℕ)) (t : Areas) : Type 0 where
+  pub report : List ℕ
+  pub report′ : List ℕ
+  pub number : ℕ
+  pub reported : ℕ
+  pub sixteen : length report ≡ reportSize
+  pub sized : length (s .1) ≡ 65536
+  pub promise : Feeds (s .0) report (s .1) piece number eaten reported (t .0) report′ (t .1)
+  pub says : said ≡ toldBy reported report′
+
+-- a silence: the message area is not lent
+pub record Stilling (s : Areas) (said : Option (List ℕ)) (t : Areas) : Type 0 where
+  pub report : List ℕ
+  pub report′ : List ℕ
+  pub number : ℕ
+  pub reported : ℕ
+  pub sixteen : length report ≡ reportSize
+  pub promise : Stills (s .0) report number reported (t .0) report′
+  pub says : said ≡ toldBy reported report′
+  pub area : t .1 ≡ s .1
+
+-- a forget order: only the state area is lent
+pub record Forgetting (i : ℕ) (s t : Areas) : Type 0 where
+  pub number : ℕ
+  pub promise : Forgets (s .0) i number (t .0)
+  pub area : t .1 ≡ s .1
+
+abbrev pub calls : Calls Areas (List ℕ)
+calls = record { Feeds = Feeding; Stills = Stilling; Forgets = Forgetting }
+
+-- "Cut the octets anywhere, offer the rest again after each report": from a state area and a message area, with a run left to offer whose trunk goes on
+-- at place p
+abbrev pub Linked : ℕ → List ℕ → List ℕ → Run → Heard → Type 0
+Linked p state area run h = Offer (Made calls) p (state, area) run (h .reports) (h .state, h .area)
