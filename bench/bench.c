@@ -5,7 +5,9 @@
                                    last a hash of the message area
      bench stack FILE PIECE        the largest stack that a call used, in octets
      bench sizes                   the size of the state
-     bench run FILE PIECE RUNS     feeds the first RUNS runs of octets (silences and forget orders end a run), and says nothing
+     bench stacks                  the stack of each call but hb_feed (the proved library alone)
+     bench run FILE PIECE RUNS [LESS]   feeds the first RUNS runs of octets (silences and forget orders end a run), the last LESS octets of the
+                                   recording left out, and says nothing
 
    PIECE is the most octets that a call is lent. */
 #ifdef PLAIN
@@ -139,14 +141,14 @@ static void feed_run(size_t from, size_t to, size_t piece)
     }
 }
 
-static size_t piece, runs;
+static size_t piece, runs, less;
 
 static void all(void)
 {
     size_t from = 0;
     fresh();
     for (size_t i = 0; i < runs && i <= event_count; i++) {
-        size_t to = i < event_count ? events[i].at : octet_count;
+        size_t to = i < event_count ? events[i].at : octet_count - less;
         feed_run(from, to, piece);
         from = to;
         if (i == event_count) return;
@@ -179,9 +181,19 @@ static size_t used_by(void (*work)(void))
     return STACK - untouched;
 }
 
+#ifndef PLAIN
+#include "stacks.h"
+#endif
+
 static int begin(int argc, char **argv)
 {
     const char *mode = argc < 2 ? "" : argv[1];
+#ifndef PLAIN
+    if (same(mode, "stacks")) {
+        stacks(used_by);
+        return 0;
+    }
+#endif
     if (same(mode, "sizes")) {
         say_number(sizeof state, 10, 1);
         say("\n");
@@ -194,6 +206,7 @@ static int begin(int argc, char **argv)
     load(argv[2]);
     piece = number_of(argv[3]);
     runs = argc < 5 ? (size_t)-1 : number_of(argv[4]);
+    less = argc < 6 ? 0 : number_of(argv[5]);
     telling = same(mode, "reports");
     if (same(mode, "stack")) {
         say_number(used_by(all), 10, 1);

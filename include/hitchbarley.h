@@ -1,29 +1,50 @@
-/* Hitchbarley: a BACnet listener for MS/TP trunks. Link with target/staticlib/libhitchbarley.a, which `rt staticlib hitchbarley` writes (x86-64).
-   A slice is a pointer, which is not null, and then its length. Every area is lent for the call alone, and no two areas of a call overlap; nothing is kept
-   and nothing allocated. Every call but the check sums answers 0 or the number of a refusal. On a refusal no area changes, and every number given back is 0.
+/* Hitchbarley: a BACnet listener for MS/TP trunks. This header is all that a program needs to know.
+
+   Link with target/staticlib/libhitchbarley.a, which `rt staticlib hitchbarley` writes (x86-64 Linux; of the C library it uses memcpy and memset alone).
+
+   Areas. A slice is a pointer and then its length. Every area is lent for the call alone; no two areas of a call overlap. Nothing is kept between calls and
+   nothing is allocated, so calls for several trunks may be made at once, each with areas of its own. A length of 0 with any pointer is fine, but the pointer
+   is not null by the language's rules: pass the address of any octet. (A null pointer with length 0 was tried in 18 calls and did no harm; nothing promises it.)
+
+   Numbers. Every call but the check sums answers 0 or the number of a refusal. On a refusal no area changes, and every number given back is 0. So after 59 or
+   60 *eaten is 0: a loop that offers the rest of its piece again must look at the answer, or it never ends. 60 is a mistake in the program, an area of another
+   size. 59 is a state area that was not made by hb_fresh or was written by somebody else: make it anew by hb_fresh; what was half received is lost, and only that.
+
    What each call promises is proved; its statement stands in crates/hitchbarley/src, with the definitions in specs. */
 #ifndef HITCHBARLEY_H
 #define HITCHBARLEY_H
 #include <stddef.h>
 #include <stdint.h>
 
+#define HB_VERSION "1.1"
+#define HB_KIT "rattle-kit-5" /* the release that this version is proved and compiled with */
+
+#ifdef __cplusplus
+extern "C" {
+#endif
+
 enum {
-    HB_STATE = 546,  /* octets of a trunk's state; crates/state/specs/Layout.antt has the layout */
+    HB_STATE = 546,  /* octets of a trunk's state */
     HB_REPORT = 16,  /* octets of a report */
-    HB_AREA = 65536, /* octets of the message area: four slots of 16,384 */
+    HB_AREA = 65536, /* octets of the message area: four slots */
+    HB_SLOT = 16384, /* octets of a slot in it: slot s stands from HB_SLOT * s on */
     HB_NPDU = 29,    /* octets of a network header's record */
     HB_APDU = 12,    /* octets of an APDU header's record */
     HB_ITEM = 12,    /* octets of an item's record */
-    HB_SERVICE = 26  /* octets of a service's record */
+    HB_SERVICE = 26, /* octets of a service's record */
+
+    /* where the last frame stands in the state area, after a report of kind 1 or 3 to 7 and until the next hb_feed */
+    HB_HEAD = 3, /* its type, destination, source, and the length of its data (2 octets, high first) at HB_HEAD + 3 */
+    HB_FRAME = 9 /* its data: in a frame of type 5 or 6 the network header, and behind that the APDU */
 };
 
 /* The numbers of refusals. */
 enum {
     /* damage, in octet 1 of a report of kind 2 */
-    HB_HEADER_CHECK = 1, /* bad header check */
-    HB_LENGTH = 2,       /* length above 501 */
-    HB_DATA_CHECK = 3,   /* bad data check */
-    HB_SILENCE = 4,      /* silence within header or data */
+    HB_DAMAGE_HEADER = 1,  /* bad header check */
+    HB_DAMAGE_LENGTH = 2,  /* length above 501 */
+    HB_DAMAGE_DATA = 3,    /* bad data check */
+    HB_DAMAGE_SILENCE = 4, /* silence within header or data */
 
     /* network header */
     HB_NPDU_ENDS = 10,    /* ends early */
@@ -67,7 +88,8 @@ enum {
     HB_NOT_OPEN = 56,  /* forgetting a slot that is not open, or above 3 */
 
     /* what is lent */
-    HB_NO_STATE = 59,  /* the state's octets are no state, or one that no run gives */
+    HB_NO_STATE = 59,  /* octets that are no state's; a state in header or data with nothing left to come, or in data with a length of 0 or above 501; a slot
+                          holding over 16,384; two open slots of one key */
     HB_NO_AREA = 60,   /* a state, report, message or record area of another size */
     HB_SMALL = 61,     /* output area smaller than the result */
     HB_NO_READING = 62 /* records that are the reading of no octets */
@@ -79,15 +101,27 @@ enum {
 uint8_t hb_fresh(uint8_t *state, size_t state_len);
 
 /* Eats a piece's octets through the first that causes a report, else all: 0, 60 or 59. *eaten octets were eaten; *reported is 1 where a report was
-   written. Offer the rest of the piece again. A report:
-     0  kind     1  number of a damage or refusal     2  frame type     3  destination     4  source     5  first APDU octet     6  invoke ID     7  slot
-     8 - 11  length, high octet first     12  service choice     13 - 15  zero
-   Kinds: 1 frame of another type than 5 and 6; 2 damage; 3 unsegmented APDU; 4 segment with MOR taken; 5 message complete, its octets at 16384 times
-   the slot in the message area until the next call; 6 refused; 7 network layer message. */
+   written. Offer the rest of the piece again. A report, where what a kind does not fill is 0:
+     octet     0     1       2           3            4       5           6          7     8 - 11                        12       13 - 15
+               kind  number  frame type  destination  source  first APDU  invoke ID  slot  length, high octet first      service  zero
+                                                              octet                                                      choice
+     kind 1    1             x           x            x                                    octets of the frame's data
+          2    2     damage
+          3    3             x           x            x       x           x                octets of the whole APDU      x
+          4    4             x           x            x       x           x          x     octets held so far            x
+          5    5             x           x            x       x           x          x     octets of the message         x
+          6    6     refusal x           x            x
+          7    7             x           x            x                                    octets behind the message type (and vendor)
+   Kinds: 1 frame of another type than 5 and 6; 2 damage; 3 unsegmented APDU; 4 segment with MOR taken; 5 message complete; 6 refused; 7 network message.
+   A completed message, its parameters alone and no header, stands in the message area from HB_SLOT * slot on until the next call. The parameters of an
+   unsegmented APDU stand in the state area: hb_npdu_read at HB_FRAME gives the place of the APDU, hb_apdu_read there the place of its parameters. Either goes to
+   hb_service_read with report[5] >> 4 as its kind and report[12] as its choice. examples/box.c does both.
+   The worst single call is the one whose octet completes a message of 2,048 items (docs/PERFORMANCE.md). */
 uint8_t hb_feed(uint8_t *state, size_t state_len, const uint8_t *piece, size_t piece_len, uint8_t *report, size_t report_len, uint8_t *area, size_t area_len,
     size_t *eaten, uint8_t *reported);
 
-/* The line fell silent: 0, 60 or 59. */
+/* The line fell silent: 0, 60 or 59. Call it when no octet came for 60 bit times (Tframe_abort of clause 9: 781 microseconds at 76,800 bit/s; up to 100
+   milliseconds is allowed), once for each silence. Without it a frame that was cut off takes the octets of the good frames behind it for its own. */
 uint8_t hb_silence(uint8_t *state, size_t state_len, uint8_t *report, size_t report_len, uint8_t *reported);
 
 /* Frees a slot: 0, 60, 59 or 56. */
@@ -138,11 +172,16 @@ uint8_t hb_items_count(const uint8_t *octets, size_t octets_len, size_t *count);
      4 - 7  place of the contents, the octet after the tag     8 - 11  their length, high octet first both */
 uint8_t hb_items_list(const uint8_t *octets, size_t octets_len, uint8_t *listed, size_t listed_len, size_t *count);
 
-/* The place after the item at a place, and after its whole group where it opens one: 0 or 30 to 38. */
+/* Walking items: from place 0 hb_item_next or hb_item_step gives the place after one item, and after the whole group where it opens one, until the end. At or
+   past the end hb_item_next is 30 and hb_item_step is 0 with *next 0. A closing tag at the place is 35. To go into a group, step on from the place in its
+   opening's record (octets 4 to 7) until 35: that is its closing. 36 to 38 are of the one item with its group, depth and count beginning at the step's own place;
+   hb_items_count judges all of them together. Over 16,384 octets are 39, first. */
+
+/* The place after the item at a place, and after its whole group where it opens one: 0 or 30 to 39. */
 uint8_t hb_item_next(const uint8_t *octets, size_t octets_len, size_t at, size_t *next);
 
 /* The reader's step, one item with its whole group: the record, at depth 0, of the item or the group's opening at a place, and the place after it: 0, 60
-   or 30 to 38. At the end, and past it, 0 with *next 0 and no record: no step else answers a place of 0. */
+   or 30 to 39. At the end, and past it, 0 with *next 0 and no record: no step else answers a place of 0. */
 uint8_t hb_item_step(const uint8_t *octets, size_t octets_len, size_t at, uint8_t *item, size_t item_len, size_t *next);
 
 /* The octets of the items that records name in a source: 0, 62 or 61; *wrote octets were written. The place of a record with length 0 is not looked at. */
@@ -171,4 +210,7 @@ uint8_t hb_service_read(uint8_t kind, uint8_t choice, const uint8_t *params, siz
    value, are not looked at. */
 uint8_t hb_service_write(const uint8_t *fields, size_t fields_len, const uint8_t *value, size_t value_len, uint8_t *out, size_t out_len, size_t *wrote);
 
+#ifdef __cplusplus
+}
+#endif
 #endif

@@ -5,6 +5,11 @@
 //!     mod hitchbarley;
 //!
 //!     rustc -L target/staticlib -l static=hitchbarley
+#![allow(dead_code)]
+
+pub const HB_VERSION: &str = "1.1";
+/// the release that this version is proved and compiled with
+pub const HB_KIT: &str = "rattle-kit-5";
 
 /// octets of a trunk's state; crates/state/specs/Layout.antt has the layout
 pub const HB_STATE: usize = 546;
@@ -12,6 +17,8 @@ pub const HB_STATE: usize = 546;
 pub const HB_REPORT: usize = 16;
 /// octets of the message area: four slots of 16,384
 pub const HB_AREA: usize = 65536;
+/// octets of a slot in it: slot s stands from HB_SLOT * s on
+pub const HB_SLOT: usize = 16384;
 /// octets of a network header's record
 pub const HB_NPDU: usize = 29;
 /// octets of an APDU header's record
@@ -20,16 +27,20 @@ pub const HB_APDU: usize = 12;
 pub const HB_ITEM: usize = 12;
 /// octets of a service's record
 pub const HB_SERVICE: usize = 26;
+/// where the last frame's type, destination, source and data length stand in the state area, after a report of kind 1 or 3 to 7
+pub const HB_HEAD: usize = 3;
+/// where its data stand
+pub const HB_FRAME: usize = 9;
 
 // damage, in octet 1 of a report of kind 2
 /// bad header check
-pub const HB_HEADER_CHECK: u8 = 1;
+pub const HB_DAMAGE_HEADER: u8 = 1;
 /// length above 501
-pub const HB_LENGTH: u8 = 2;
+pub const HB_DAMAGE_LENGTH: u8 = 2;
 /// bad data check
-pub const HB_DATA_CHECK: u8 = 3;
+pub const HB_DAMAGE_DATA: u8 = 3;
 /// silence within header or data
-pub const HB_SILENCE: u8 = 4;
+pub const HB_DAMAGE_SILENCE: u8 = 4;
 
 // network header
 /// ends early
@@ -104,7 +115,8 @@ pub const HB_TOO_MANY: u8 = 55;
 pub const HB_NOT_OPEN: u8 = 56;
 
 // what is lent
-/// the state's octets are no state, or one that no run gives
+/// octets that are no state's; a state in header or data with nothing left to come, or in data with a length of 0 or above 501; a slot holding over
+/// 16,384; two open slots of one key
 pub const HB_NO_STATE: u8 = 59;
 /// a state, report, message or record area of another size
 pub const HB_NO_AREA: u8 = 60;

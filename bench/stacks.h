@@ -1,0 +1,49 @@
+/* The stack of each exported call on octets that lead it deep: painted, used, read back. */
+static uint8_t deep_state[HB_STATE], deep_fields[HB_NPDU], deep_out[HB_SLOT], deep_list[HB_ITEM * 33];
+static size_t deep_number;
+static uint8_t deep_told;
+
+/* a network header with all its parts; a confirmed request in segments; sixteen groups, one in the other; an ack with a value of one real */
+static const uint8_t deep_npdu[] = {1, 0x28, 0, 5, 7, 1, 2, 3, 4, 5, 6, 7, 0, 9, 7, 1, 2, 3, 4, 5, 6, 7, 255};
+static const uint8_t deep_apdu[] = {0x0C, 5, 1, 0, 1, 12};
+static uint8_t deep_items[2 * 16 + 5];
+static const uint8_t deep_ack[] = {0x0C, 0, 0, 0, 1, 0x19, 0x55, 0x3E, 0x44, 0x42, 0x39, 0x99, 0x9A, 0x3F};
+static const uint8_t deep_real[] = {0x44, 0x42, 0x39, 0x99, 0x9A};
+
+#define DEEP(name, call) \
+    static void name(void) { call; }
+DEEP(deep_fresh, hb_fresh(deep_state, HB_STATE))
+DEEP(deep_silence, hb_silence(deep_state, HB_STATE, report, HB_REPORT, &deep_told))
+DEEP(deep_forget, hb_forget(deep_state, HB_STATE, 0))
+DEEP(deep_header_check, hb_header_check(deep_npdu, 5))
+DEEP(deep_data_check, hb_data_check(deep_npdu, sizeof deep_npdu))
+DEEP(deep_npdu_read, hb_npdu_read(deep_npdu, sizeof deep_npdu, deep_fields, HB_NPDU, &deep_number))
+DEEP(deep_npdu_write, hb_npdu_write(deep_fields, HB_NPDU, deep_out, sizeof deep_out, &deep_number))
+DEEP(deep_apdu_read, hb_apdu_read(deep_apdu, sizeof deep_apdu, deep_fields, HB_APDU, &deep_number))
+DEEP(deep_apdu_write, hb_apdu_write(deep_fields, HB_APDU, deep_out, sizeof deep_out, &deep_number))
+DEEP(deep_items_count, hb_items_count(deep_items, sizeof deep_items, &deep_number))
+DEEP(deep_items_list, hb_items_list(deep_items, sizeof deep_items, deep_list, sizeof deep_list, &deep_number))
+DEEP(deep_item_next, hb_item_next(deep_items, sizeof deep_items, 0, &deep_number))
+DEEP(deep_item_step, hb_item_step(deep_items, sizeof deep_items, 0, deep_fields, HB_ITEM, &deep_number))
+DEEP(deep_items_write, hb_items_write(deep_list, sizeof deep_list, deep_items, sizeof deep_items, deep_out, sizeof deep_out, &deep_number))
+DEEP(deep_service_read, hb_service_read(3, 12, deep_ack, sizeof deep_ack, deep_fields, HB_SERVICE))
+DEEP(deep_service_write, hb_service_write(deep_fields, HB_SERVICE, deep_real, sizeof deep_real, deep_out, sizeof deep_out, &deep_number))
+
+static void stacks(size_t (*used_by)(void (*)(void)))
+{
+    static const struct { const char *name; void (*work)(void); } calls[] = {
+        {"hb_fresh", deep_fresh}, {"hb_silence", deep_silence}, {"hb_forget", deep_forget},
+        {"hb_header_check, hb_header_run", deep_header_check}, {"hb_data_check, hb_data_run", deep_data_check},
+        {"hb_npdu_read", deep_npdu_read}, {"hb_npdu_write", deep_npdu_write}, {"hb_apdu_read", deep_apdu_read}, {"hb_apdu_write", deep_apdu_write},
+        {"hb_items_count", deep_items_count}, {"hb_items_list", deep_items_list}, {"hb_item_next", deep_item_next}, {"hb_item_step", deep_item_step},
+        {"hb_items_write", deep_items_write}, {"hb_service_read", deep_service_read}, {"hb_service_write", deep_service_write}};
+    for (int i = 0; i < 16; i++) deep_items[i] = 0x3E, deep_items[sizeof deep_items - 1 - i] = 0x3F;
+    for (int i = 0; i < 5; i++) deep_items[16 + i] = deep_real[i];
+    for (size_t i = 0; i < sizeof calls / sizeof *calls; i++) {
+        say("| ");
+        say(calls[i].name);
+        say(" | ");
+        say_number(used_by(calls[i].work), 10, 1);
+        say(" |\n");
+    }
+}
