@@ -20,7 +20,7 @@ use Rattle.npdu.specs.declared.Npdu.{Npdu}
 use Rattle.npdu.specs.declared.Reading.{Reading}
 use Rattle.apdu.specs.Reading.{readApdu}
 use Rattle.apdu.specs.Layout as Header
-use Rattle.apdu.specs.Writing as HeaderFault
+use Rattle.apdu.specs.Fault as HeaderFault
 use Rattle.apdu.specs.declared.Pdu.{Pdu}
 use Rattle.apdu.specs.declared.Answer as Apdu
 use Rattle.items.specs.Grammar as Items

@@ -23,7 +23,7 @@ use Rattle.collector.proofs.Demand.{boxed-way}
 use Rattle.records.specs.Flag.{flag}
 use Rattle.state.specs.Layout.{stateOctets}
 use Rattle.state.specs.Calls.{Loads}
-use Rattle.state.proofs.Parts.{Shaped}
+use Rattle.state.proofs.Whole.{Shaped}
 use Rattle.state.proofs.Exact.{shaped-loads}
 use Rattle.hitchbarley.specs.Trunk.{Left, stateBy, stateOf, passed, bar, inside, feedBar, feedLeft, silenceBar, silenceLeft, forgetNumberOf, forgotten, forgetLeft, Feeds, Stills, Forgets}
 use Rattle.hitchbarley.specs.Offering.{Heard, toldBy, Areas, calls, Linked}
