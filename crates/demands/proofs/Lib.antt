@@ -11,3 +11,4 @@ pub mod Worked
 pub mod Contracts
 pub mod HeaderRows
 pub mod SegmentRows
+pub mod TagRows

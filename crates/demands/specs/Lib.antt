@@ -3,3 +3,4 @@ pub mod Demands
 pub mod Contracts
 pub mod HeaderRows
 pub mod SegmentRows
+pub mod TagRows
