@@ -8,3 +8,4 @@ pub mod Exact
 pub mod Judged
 pub mod Written
 pub mod Rows
+pub mod AddressLaws

@@ -32,7 +32,7 @@ rules-none net len low top e =
       len-range = ltb-false 7 len (d .0);
     }
 
-fault-here : (here : Bool) (net len low top : ℕ) → partFault here net len low top ≡ 0 → here ≡ true → PartValid net len low top
+pub fault-here : (here : Bool) (net len low top : ℕ) → partFault here net len low top ≡ 0 → here ≡ true → PartValid net len low top
 unfolding partFault given
 fault-here here net len low top e h = rules-none net len low top (rw h at e)
 

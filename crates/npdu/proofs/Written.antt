@@ -20,7 +20,7 @@ use Rattle.npdu.proofs.Exact.{reads-written}
 use Rattle.npdu.proofs.Sizes.{fault-none}
 
 -- a header that keeps to the rules is not refused
-rules-fine : (here : Bool) (net len low top : ℕ) → (here ≡ true → PartValid net len low top) → partFault here net len low top ≡ 0
+pub rules-fine : (here : Bool) (net len low top : ℕ) → (here ≡ true → PartValid net len low top) → partFault here net len low top ≡ 0
 unfolding partFault partRules given
 rules-fine true net len low top v =
     let w = v refl in

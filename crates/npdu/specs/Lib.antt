@@ -3,3 +3,4 @@ pub mod Fault
 pub mod Read
 pub mod Size
 pub mod Follow
+pub mod Address

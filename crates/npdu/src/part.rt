@@ -28,7 +28,7 @@ fn no_part(refused: u8, next: usize) -> Part
 }
 
 // The n octets at a place, and 0 up to seven.
-fn address(s: &[u8], at: usize, n: usize) -> [u8; 7]
+pub fn address(s: &[u8], at: usize, n: usize) -> [u8; 7]
     requires { ⌜ (n ≤ 7) × (at + n ≤ length (now s)) ⌝ }
     ensures { λ r. ⌜ r ≡ addressOf (now (s .entry)) at n ⌝ }
 {
