@@ -5,21 +5,22 @@ use native.Mathlib.Omega.{arith}
 use mathlib.Core.Bool.{Bool, true, false}
 use mathlib.Core.List.{List, [], _∷_}
 use mathlib.Core.Logic.{_↔_}
-use mathlib.Core.Path.{_≡_, refl, sym, ap, _∙_}
+use mathlib.Core.Path.{_≡_, refl, ap}
 use lib.Dec.{eqb, lit<}
 use lib.ListN.{length, getD, drop, drop-of-length-le}
 use lib.Seq.{drop-cons}
 use borrow.Author.Tests.{eqb-true, eq-eqb, ne-eqb}
-use Rattle.octets.specs.Choice.{given, given-true, pick-so, not-so}
+use Rattle.octets.specs.Choice.{given, pick-so, not-so}
 use Rattle.octets.specs.Every.{octets-none, octets-more}
 use Rattle.octets.specs.Reading.{Octets}
 use Rattle.npdu.specs.Address.{absent, partAddress, sourceOf, destinationOf, sameOctets, sameFields, sameAddress, shownAddress, settled, gives, givesSource, givesDestination, AddressFits, Giver}
 use Rattle.npdu.specs.Fault.{partFault}
-use Rattle.npdu.specs.Layout.{zeros, cut, shown, PartValid}
+use Rattle.npdu.specs.Layout.{zeros, cut, shown}
+use Rattle.npdu.specs.Valid.{PartValid}
 use Rattle.npdu.specs.declared.Address.{Address}
 use Rattle.npdu.specs.declared.Npdu.{Npdu}
 use Rattle.npdu.proofs.Sizes.{fault-here}
-use Rattle.npdu.proofs.Written.{rules-fine}
+use Rattle.npdu.proofs.Trips.{rules-fine}
 
 -- ---- the same octets, and the turns of the loop that compares them
 

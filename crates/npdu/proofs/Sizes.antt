@@ -10,7 +10,8 @@ use lib.Seq.{length-take-le}
 use borrow.Author.Tests.{ltb-false, eqb-false, eqb-true}
 use Rattle.octets.specs.Choice.{pick, given, pick-not, pick-cases, by-test}
 use Rattle.npdu.specs.Fault.{partRules, partFault, sooner, faultOf}
-use Rattle.npdu.specs.Layout.{partLaid, partOctets, hopOctets, messageLaid, messageOctets, partsOctets, tailOctets, encode, PartValid, Ruled, Kept}
+use Rattle.npdu.specs.Layout.{partLaid, partOctets, hopOctets, messageLaid, messageOctets, partsOctets, tailOctets, encode}
+use Rattle.npdu.specs.Valid.{PartValid, Ruled, Kept}
 use Rattle.npdu.specs.Size.{partSize, hopSize, kindSize, messageSize, partsSize, tailSize, sizeOf}
 use Rattle.npdu.specs.declared.Npdu.{Npdu}
 

@@ -8,7 +8,8 @@ use lib.ListN.{length}
 use Rattle.octets.specs.Choice.{pick, given}
 use Rattle.octets.specs.Reading.{Octets}
 use Rattle.npdu.specs.Fault.{partFault}
-use Rattle.npdu.specs.Layout.{zeros, cut, Valid}
+use Rattle.npdu.specs.Layout.{zeros, cut}
+use Rattle.npdu.specs.Valid.{HeaderFits, Valid}
 use Rattle.npdu.specs.declared.Address.{Address}
 use Rattle.npdu.specs.declared.Npdu.{Npdu}
 
@@ -71,17 +72,6 @@ pub record AddressFits (a : Address) : Type 0 where
   pub length-fits : a .length < 256
   pub octets-fit : Octets (a .octets)
   pub seven : length (a .octets) ≡ 7
-
-pub record HeaderFits (h : Npdu) : Type 0 where
-  pub dnet-fits : h .dnet < 65536
-  pub dlen-fits : h .dlen < 256
-  pub dadr-fits : Octets (h .dadr)
-  pub snet-fits : h .snet < 65536
-  pub slen-fits : h .slen < 256
-  pub sadr-fits : Octets (h .sadr)
-  pub hops-fit : h .hops < 256
-  pub kind-fits : h .kind < 256
-  pub vendor-fits : h .vendor < 65536
 
 -- a header that keeps the rules, its fields in their octets, of which this is the address
 pub record Giver (addressOf : Npdu → Address) (a : Address) : Type 0 where

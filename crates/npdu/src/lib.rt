@@ -10,7 +10,7 @@ ghost use mathlib.Core.Path.{_≡_};
 ghost use Rattle.octets.specs.Laid.{Laid};
 ghost use Rattle.npdu.specs.Layout.{encode};
 ghost use Rattle.npdu.specs.Fault.{faultOf};
-ghost use Rattle.npdu.specs.Read.{readNpdu};
+ghost use Rattle.npdu.specs.Reading.{readNpdu};
 
 // A header's fields. Those of an absent part, and address octets past the length, are read as 0 and are not looked at in writing.
 pub struct Npdu {

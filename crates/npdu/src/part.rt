@@ -2,7 +2,7 @@
 ghost use mathlib.Core.Path.{_≡_};
 ghost use Prim.Native.Nat.{_+_, _≤_};
 ghost use lib.ListN.{length};
-ghost use Rattle.npdu.specs.Read.{addressOf, noPart, partNet, partOf, partIf};
+ghost use Rattle.npdu.specs.Reading.{addressOf, noPart, partNet, partOf, partIf};
 
 // What reading a part gives: a refusal number, or 0 with the place after the part and its fields.
 pub struct Part {

@@ -6,7 +6,7 @@ use mathlib.Core.Path.{_≡_, sym, ap, _∙_}
 use lib.ListN.{length}
 use Rattle.octets.specs.Choice.{given-true, given-false}
 use Rattle.npdu.specs.Address.{sameOctets, sameAddress, settled}
-use Rattle.npdu.specs.Read.{addressOf}
+use Rattle.npdu.specs.Reading.{addressOf}
 use Rattle.npdu.specs.declared.Address.{Address}
 use Rattle.npdu.proofs.addresses.is_settled.Statement.{statement}
 use Rattle.npdu.proofs.addresses.is_settled.Tie as tie
@@ -26,7 +26,8 @@ is-settled-spec =
     (k, omega (arith, seven st)))
     (λ c κs. search needs)
     (λ c. let a = c .before .before .before .before .before .before .args .a in
-    c .same-octets .ensures ∙ ap (λ (x : List ℕ). sameOctets x (a .octets)) (c .before .address .ensures) ∙ sym (given-true _ _ _ (c .before .before .before .before .before .if1 .taken)))
+    let here = c .before .before .before .before .before .if1 .taken in
+    c .same-octets .ensures ∙ ap (λ (x : List ℕ). sameOctets x (a .octets)) (c .before .address .ensures) ∙ sym (given-true _ _ _ here))
     (λ c κs. search needs)
     (λ c κs. search needs)
     (λ c. let a = c .before .before .before .args .a in

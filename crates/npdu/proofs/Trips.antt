@@ -11,9 +11,10 @@ use Rattle.octets.specs.Laid.{Laid, laid-one, laid-wrote}
 use Rattle.octets.specs.declared.Written.{Written}
 use Rattle.octets.specs.declared.Written.the-variants.{Wrote}
 use Rattle.npdu.specs.Fault.{partRules, partFault, sooner, faultOf}
-use Rattle.npdu.specs.Follow.{accepted}
-use Rattle.npdu.specs.Layout.{encode, shown, PartValid, Ruled, Kept}
-use Rattle.npdu.specs.Read.{readNpdu}
+use Rattle.npdu.specs.Exact.{accepted}
+use Rattle.npdu.specs.Layout.{encode, shown}
+use Rattle.npdu.specs.Valid.{PartValid, Ruled, Kept}
+use Rattle.npdu.specs.Reading.{readNpdu}
 use Rattle.npdu.specs.declared.Npdu.{Npdu}
 use Rattle.npdu.specs.declared.Reading.{Reading}
 use Rattle.npdu.proofs.Exact.{reads-written}
