@@ -12,7 +12,7 @@ use rebuild::Step;
 ghost use mathlib.Core.Path.{_≡_};
 ghost use Prim.Native.Nat.{_≤_, _<_};
 ghost use lib.ListN.{length};
-ghost use Rattle.npdu.specs.Read.{readNpdu};
+ghost use Rattle.npdu.specs.Reading.{readNpdu};
 ghost use Rattle.apdu.specs.Reading.{readApdu};
 ghost use Rattle.apdu.specs.Fields.{paramsAt};
 ghost use Rattle.items.specs.Reading.{itemsOf};

@@ -22,7 +22,7 @@ use Rattle.items.proofs.Refusals.{OutHas, head-has, walk-has, item-has}
 use Rattle.reader.specs.Reading.{shown, judged, stepOf}
 use Rattle.reader.specs.declared.Step.{Step}
 use Rattle.npdu.specs.Fault.{partRules, partFault, sooner, faultOf}
-use Rattle.npdu.specs.Read.{readNpdu, refusedBy}
+use Rattle.npdu.specs.Reading.{readNpdu, refusedBy}
 use Rattle.npdu.proofs.Outcome as Network
 use Rattle.apdu.proofs.Exact as Header
 use Rattle.apdu.specs.Fault as HeaderFault

@@ -4,3 +4,4 @@ pub mod Contracts
 pub mod HeaderRows
 pub mod SegmentRows
 pub mod TagRows
+pub mod NetworkRows
