@@ -16,6 +16,7 @@ use Rattle.frames.specs.declared.Receiver.{Receiver}
 use Rattle.messages.specs.Slots as Messages
 use Rattle.rebuild.specs.declared.Key.{Key}
 use Rattle.rebuild.proofs.Seen.{view-one}
+use Rattle.reports.specs.Layout.{reportSize}
 use Rattle.collector.specs.Calls.{passing, box, written, saidSo, slotsOf, Answered, feeding, Feeds, stilling, Stills, Forgets}
 use Rattle.collector.specs.Offering.{End, told, Called}
 use Rattle.collector.specs.Offering.Called.{over as none-left, fed as feeds, still as stills, forgot as forgets}
@@ -56,23 +57,23 @@ told-said none b report report′ e q = rw e
 told-said (some y) b report report′ e q = rw (e, q)
 
 -- with a report area of 16 octets a piece's answer is the box's
-feeding-box : (c : Collector) (report area piece : List ℕ) → length report ≡ 16 → feeding c report area piece ≡ box .feed (c .receiver) (slotsOf c) area piece
+feeding-box : (c : Collector) (report area piece : List ℕ) → length report ≡ reportSize → feeding c report area piece ≡ box .feed (c .receiver) (slotsOf c) area piece
 unfolding feeding
-feeding-box c report area piece k = rw (eq-eqb (length report) 16 k)
+feeding-box c report area piece k = rw (eq-eqb (length report) reportSize k)
 
-pub feeds-box : (c : Collector) (report area piece : List ℕ) {report′ area′ : List ℕ} {r : Fed} → length report ≡ 16 → Feeds c report area piece r report′ area′
+pub feeds-box : (c : Collector) (report area piece : List ℕ) {report′ area′ : List ℕ} {r : Fed} → length report ≡ reportSize → Feeds c report area piece r report′ area′
     → answer (r .eaten) (told (r .reported) report′) (r .state .receiver) (slotsOf (r .state)) area′ ≡ box .feed (c .receiver) (slotsOf c) area piece
 feeds-box c report area piece {report′} {r = r} k h =
     let d = feeding c report area piece in
     rw (h .eaten, told-said (d .said) (r .reported) report report′ (h .reported) (h .reportAfter), h .receiver, h .slots, h .areaAfter) (feeding-box c report area piece k)
 
 -- a silence's answer does not look at the area
-stilling-box : (c : Collector) (report area : List ℕ) → length report ≡ 16
+stilling-box : (c : Collector) (report area : List ℕ) → length report ≡ reportSize
     → (let d = stilling c report [] in answer 0 (d .said) (d .state) (d .slots) area ≡ box .still (c .receiver) (slotsOf c) area)
 unfolding stilling
-stilling-box c report area k = rw (eq-eqb (length report) 16 k) (by-test (passing (slotsOf c)) (λ e. rw e) (λ e. rw e))
+stilling-box c report area k = rw (eq-eqb (length report) reportSize k) (by-test (passing (slotsOf c)) (λ e. rw e) (λ e. rw e))
 
-pub stills-box : (c : Collector) (report area : List ℕ) {report′ : List ℕ} {r : Fell} → length report ≡ 16 → Stills c report r report′
+pub stills-box : (c : Collector) (report area : List ℕ) {report′ : List ℕ} {r : Fell} → length report ≡ reportSize → Stills c report r report′
     → answer 0 (told (r .reported) report′) (r .state .receiver) (slotsOf (r .state)) area ≡ box .still (c .receiver) (slotsOf c) area
 stills-box c report area {report′} {r} k h =
     let d = stilling c report [] in

@@ -17,6 +17,7 @@ use Rattle.messages.specs.Rows.{forgetNumber}
 use Rattle.rebuild.specs.View.{keys, unview}
 use Rattle.rebuild.specs.declared.Key.{Key}
 use Rattle.rebuild.proofs.Seen.{view-unview}
+use Rattle.reports.specs.Layout.{reportSize}
 use Rattle.collector.specs.Calls.{box, sound, passing, slotsOf, written, saidSo, Answered, feedRefusal, feeding, Feeds, silenceRefusal, stilling, Stills, Forgets}
 use Rattle.collector.specs.Offering.{End, told, Called}
 use Rattle.collector.specs.Offering.Called.{over as none-left, fed as feeds, still as stills, forgot as forgets}
@@ -55,13 +56,13 @@ told-said : (x : Option (List ℕ)) (report : List ℕ) → told (saidSo x) (wri
 told-said none report = refl
 told-said (some y) report = refl
 
--- a report area of 16 octets
+-- a report area of its size
 blank : List ℕ
-blank = replicate 16 0
+blank = replicate reportSize 0
 
-sixteen : length blank ≡ 16
+blank-size : length blank ≡ reportSize
 unfolding blank
-sixteen = refl
+blank-size = refl
 
 module _ (c : Collector) {m : Receiver} {s : List (Slot Key)} (q : c .receiver ≡ m) (w : slotsOf c ≡ s) where
   feeding-box : (a piece : List ℕ) → feeding c blank a piece ≡ box .feed m s a piece
@@ -79,7 +80,7 @@ call {p} {m} {s} {a} c q w (fed {e = e} piece run o) =
     let r : Fed = record { refused = feedRefusal c blank a; eaten = d .eaten; reported = saidSo (d .said); state = stateOf d } in
     let h : Feeds c blank a piece r (written (d .said) blank) (d .area) = rw (feeding-box c q w a piece) (tells (feedRefusal c blank a) d blank) in
     subst (λ (x : Option (List ℕ)). Called p c a (octs piece ++ run) (spoken (p + d .eaten - 1) x e)) (told-said (d .said) blank)
-    (feeds piece run blank r (written (d .said) blank) (d .area) sixteen h (call (stateOf d) refl (view-unview (d .slots)) o))
+    (feeds piece run blank r (written (d .said) blank) (d .area) blank-size h (call (stateOf d) refl (view-unview (d .slots)) o))
 call {p} {m} {s} {a} c q w (still {run = run} {e = e} o) =
     let d = box .still m s a in
     let k : answer 0 (stilling c blank [] .said) (stilling c blank [] .state) (stilling c blank [] .slots) a ≡ d = stilling-box c q w a in
@@ -93,7 +94,7 @@ call {p} {m} {s} {a} c q w (still {run = run} {e = e} o) =
       reportAfter = ap (λ (x : Answered). written (x .said) blank) (sym k);
     } in
     let rest : Called (p + 1) (stateOf d) a run e = subst (λ (x : List ℕ). Called (p + 1) (stateOf d) x run e) (sym (ap (λ (x : Answered). x .area) k)) (call (stateOf d) refl (view-unview (d .slots)) o) in
-    subst (λ (x : Option (List ℕ)). Called p c a (trunk silence ∷ run) (spoken p x e)) (told-said (d .said) blank) (stills blank r (written (d .said) blank) sixteen h rest)
+    subst (λ (x : Option (List ℕ)). Called p c a (trunk silence ∷ run) (spoken p x e)) (told-said (d .said) blank) (stills blank r (written (d .said) blank) blank-size h rest)
 call {p} {m} {s} {a} c q w (forgot n o) =
     let t = box .free n m s in
     let r : Forgot = record { number = pick (sound (c .receiver) (slotsOf c)) (forgetNumber keys n (slotsOf c)) 59; state = record { receiver = c .receiver; slots = unview t } } in

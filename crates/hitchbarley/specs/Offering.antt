@@ -10,7 +10,7 @@ use Rattle.runs.specs.Run.{Run, octs, Ends, ends}
 use Rattle.runs.specs.Run.Event.{silence}
 use Rattle.runs.specs.Run.Order.{trunk, forget}
 use Rattle.runs.specs.Offered.{spoken}
-use Rattle.collector.specs.Report.{reportSize}
+use Rattle.reports.specs.Layout.{reportSize}
 use Rattle.hitchbarley.specs.Trunk.{Feeds, Stills, Forgets}
 
 -- the reports with their places, and the state area and the message area at the end
