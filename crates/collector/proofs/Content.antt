@@ -10,7 +10,7 @@ use lib.Seq.{take-length}
 use borrow.Author.Tests.{lt-ltb, le-ltb, eq-eqb, ne-eqb}
 use Rattle.octets.specs.Choice.{given-true, given-false, given-cases, impossible}
 use Rattle.octets.specs.Reading.{oct}
-use Rattle.npdu.specs.Read.{readNpdu}
+use Rattle.npdu.specs.Reading.{readNpdu}
 use Rattle.npdu.specs.declared.Reading.{Reading}
 use Rattle.npdu.proofs.Outcome.{next-within}
 use Rattle.apdu.specs.Reading.{readApdu}

@@ -6,7 +6,7 @@ use lib.Dec.{ltb, eqb}
 use lib.ListN.{length, drop}
 use Rattle.octets.specs.Choice.{pick, given}
 use Rattle.octets.specs.Reading.{oct, refuse}
-use Rattle.npdu.specs.Read.{readNpdu}
+use Rattle.npdu.specs.Reading.{readNpdu}
 use Rattle.npdu.specs.declared.Reading.{Reading}
 use Rattle.apdu.specs.Reading.{readApdu}
 use Rattle.apdu.specs.declared.Answer.{Answer}

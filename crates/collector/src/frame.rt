@@ -13,7 +13,7 @@ use reports::Report;
 ghost use mathlib.Core.Path.{_≡_};
 ghost use Prim.Native.Nat.{_≤_};
 ghost use lib.ListN.{length};
-ghost use Rattle.npdu.specs.Read.{readNpdu};
+ghost use Rattle.npdu.specs.Reading.{readNpdu};
 ghost use Rattle.apdu.specs.Reading.{readApdu};
 ghost use Rattle.items.specs.Reading.{itemsOf};
 ghost use Rattle.rebuild.specs.View.{view};

@@ -1,6 +1,7 @@
 pub mod Calls
 pub mod FiftyNine
 pub mod Numbers
+pub mod NetworkRows
 pub mod ServiceNumbers
 pub mod Segments
 pub mod Changes

@@ -23,7 +23,7 @@ use Rattle.items.specs.declared.One.{One as OneItem}
 use Rattle.reader.specs.Reading.{shown, judged, stepOf}
 use Rattle.reader.specs.declared.Step.{Step}
 use Rattle.npdu.specs.Fault.{partRules, partFault, sooner, faultOf}
-use Rattle.npdu.specs.Read.{readNpdu, refusedBy}
+use Rattle.npdu.specs.Reading.{readNpdu, refusedBy}
 use Rattle.npdu.proofs.Outcome as Network
 use Rattle.apdu.specs.Laws as Header
 use Rattle.apdu.specs.Writing as HeaderFault

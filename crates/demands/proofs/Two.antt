@@ -13,10 +13,10 @@ use Rattle.octets.specs.declared.Written.the-variants.{Wrote}
 use Rattle.sums.proofs.Good.{header-exact, data-exact}
 use Rattle.trunk.proofs.Laws.{frames-from}
 use Rattle.npdu.specs.Layout as Network
-use Rattle.npdu.specs.Read.{readNpdu}
+use Rattle.npdu.specs.Reading.{readNpdu}
 use Rattle.npdu.proofs.Exact.{npdu-exactly}
 use Rattle.npdu.proofs.Outcome.{next-within}
-use Rattle.npdu.proofs.Written as NetworkWritten
+use Rattle.npdu.proofs.Trips as NetworkWritten
 use Rattle.apdu.specs.Laws.{exact}
 use Rattle.apdu_writer.specs.Trips.{write-read, read-write}
 use Rattle.tags.proofs.Exact.{head-sound, head-complete}

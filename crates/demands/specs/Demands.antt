@@ -27,10 +27,11 @@ use Rattle.trunk.specs.Frames.{FrameAt, Bytes}
 use Rattle.trunk.specs.Demand.{Sound, reading, hurtBy}
 use Rattle.npdu.specs.declared.Npdu.{Npdu}
 use Rattle.npdu.specs.declared.Reading.{Reading}
-use Rattle.npdu.specs.Read.{readNpdu, refusedBy}
+use Rattle.npdu.specs.Reading.{readNpdu, refusedBy}
 use Rattle.npdu.specs.Layout as Network
+use Rattle.npdu.specs.Valid as NetworkRules
 use Rattle.npdu.specs.Fault as NetworkFault
-use Rattle.npdu.specs.Follow as NetworkRead
+use Rattle.npdu.specs.Exact as NetworkRead
 use Rattle.apdu.specs.declared.Pdu.{Pdu}
 use Rattle.apdu.specs.declared.Answer as Apdu
 use Rattle.apdu.specs.Reading.{readApdu}
@@ -296,7 +297,7 @@ NetworkWritesBack = (s area later : List ℕ) (r : Written) → Octets s → rea
 
 -- what the writer wrote reads back, absent parts shown as 0
 abbrev pub NetworkReadsBack : Type 0
-NetworkReadsBack = (h : Npdu) (n : ℕ) (area later : List ℕ) → Network.Kept h → Laid (NetworkFault.faultOf h) (Network.encode h) area (Wrote n) later
+NetworkReadsBack = (h : Npdu) (n : ℕ) (area later : List ℕ) → NetworkRules.Kept h → Laid (NetworkFault.faultOf h) (Network.encode h) area (Wrote n) later
     → readNpdu later ≡ NetworkRead.accepted n (Network.shown h)
 
 -- ---- the eight APDU headers, each with its parameters

@@ -6,7 +6,7 @@ use lib.Dec.{eqb}
 use lib.ListN.{length}
 use borrow.Author.Tests.{ne-eqb, eq-eqb, le-leb, lt-leb}
 use Rattle.octets.specs.Reading.{oct}
-use Rattle.npdu.specs.Read.{readNpdu}
+use Rattle.npdu.specs.Reading.{readNpdu}
 use Rattle.npdu.specs.Fault as Npdu
 use Rattle.npdu.specs.declared.Reading.{Reading}
 use Rattle.apdu.specs.Fields.{paramsAt}

@@ -10,14 +10,14 @@ use borrow.Author.Tests.{eqb-true}
 use Rattle.octets.specs.Choice.{pick, pick-so}
 use Rattle.octets.specs.Has.{has-cut}
 use Rattle.octets.specs.Reading.{Octets, oct}
-use Rattle.npdu.specs.Read.{readNpdu}
+use Rattle.npdu.specs.Reading.{readNpdu}
 use Rattle.npdu.specs.Fault as Npdu
-use Rattle.npdu.specs.Follow.{accepted}
+use Rattle.npdu.specs.Exact.{accepted}
 use Rattle.npdu.specs.Layout.{encode, shown}
 use Rattle.npdu.specs.declared.Reading.{Reading}
 use Rattle.npdu.proofs.Exact.{head-sound, reads-shown, reads-written}
 use Rattle.npdu.proofs.Sizes.{fault-none}
-use Rattle.npdu.proofs.Written.{ruled-fine}
+use Rattle.npdu.proofs.Trips.{ruled-fine}
 use Rattle.apdu.specs.Fields.{paramsAt}
 use Rattle.apdu.specs.Layout.{header, Follows}
 use Rattle.apdu.specs.Laws.{header-length, written-reads-back, read-writes-back}

@@ -2,7 +2,7 @@
 use crate::answers;
 use apdu::Answer;
 ghost use lib.Dec.{eqb};
-ghost use Rattle.npdu.specs.Read.{readNpdu};
+ghost use Rattle.npdu.specs.Reading.{readNpdu};
 ghost use Rattle.npdu.specs.Layout.{encode};
 ghost use Rattle.apdu.specs.Reading.{readApdu};
 ghost use Rattle.apdu.specs.Layout.{header};

@@ -12,9 +12,10 @@ use Rattle.octets.specs.Choice.{non, pick-cases, by-test}
 use Rattle.octets.specs.Exact.{Exactly}
 use Rattle.octets.specs.Has.{Has, has-append, has-left, has-right, has-cut, has-bound, all-has}
 use Rattle.octets.specs.Reading.{oct, refuse, Octets}
-use Rattle.npdu.specs.Follow.{Followed, Reads, ValidFirst, encodeAll, accepted}
-use Rattle.npdu.specs.Layout.{version, controlOf, partOctets, hopOctets, messageOctets, partsOctets, tailOctets, encode, shown, Ruled, Kept}
-use Rattle.npdu.specs.Read.{messageBit, destBit, sourceBit, sixthBit, fourthBit, partIf, tailAt, ended, refusedBy, joined, afterTail, afterSource, afterDest, afterVersion, readNpdu}
+use Rattle.npdu.specs.Exact.{Followed, Reads, ValidFirst, encodeAll, accepted}
+use Rattle.npdu.specs.Layout.{version, controlOf, partOctets, hopOctets, messageOctets, partsOctets, tailOctets, encode, shown}
+use Rattle.npdu.specs.Valid.{Ruled, Kept}
+use Rattle.npdu.specs.Reading.{messageBit, destBit, sourceBit, sixthBit, fourthBit, partIf, tailAt, ended, refusedBy, joined, afterTail, afterSource, afterDest, afterVersion, readNpdu}
 use Rattle.npdu.specs.declared.Npdu.{Npdu}
 use Rattle.npdu.specs.declared.Reading.{Reading}
 use Rattle.npdu.specs.declared.part.Part.{Part}
@@ -122,7 +123,7 @@ module _ (o : List ℕ) (os : Octets o) where
 -- ---- accepted exactly when
 
 -- octets that stand at the front, and the rest
-split : (o x : List ℕ) → Has o 0 x → o ≡ x ++ drop (length x) o
+pub split : (o x : List ℕ) → Has o 0 x → o ≡ x ++ drop (length x) o
 split o x h = sym (take-append-drop (length x) o) ∙ rw (has-cut o 0 x h)
 
 front : (x t : List ℕ) → Has (x ++ t) 0 x

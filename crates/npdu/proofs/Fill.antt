@@ -7,7 +7,7 @@ use lib.ListN.{length, take, drop, length-drop}
 use lib.Seq.{length-take-le}
 use Rattle.octets.specs.Splice.{splice, splice-front}
 use Rattle.npdu.specs.Layout.{zeros, cut}
-use Rattle.npdu.specs.Read.{addressOf}
+use Rattle.npdu.specs.Reading.{addressOf}
 
 drop-zeros : (n k : ℕ) → drop n (zeros k) ≡ zeros (k - n)
 drop-zeros zero k = let e : k ≡ k - 0 = omega arith in ap zeros e

@@ -6,5 +6,9 @@ pub mod Tails
 pub mod Control
 pub mod Exact
 pub mod Judged
-pub mod Written
+pub mod Trips
+pub mod Edges
+pub mod Views
 pub mod Rows
+pub mod Faults
+pub mod AddressLaws

@@ -11,7 +11,7 @@ use borrow.Author.Tests.{leb-false}
 use Rattle.octets.specs.Choice.{non, pick-cases, pick-case, given-cases}
 use Rattle.octets.specs.Reading.{oct, be16, refuse}
 use Rattle.npdu.specs.Layout.{version}
-use Rattle.npdu.specs.Read.{messageBit, destBit, sourceBit, sixthBit, fourthBit, noPart, partLen, partNet, partOf, partIf, ended, vendorAt, messageAt, tailAt, refusedBy, joined, afterTail, afterSource, afterDest, afterVersion, readNpdu}
+use Rattle.npdu.specs.Reading.{messageBit, destBit, sourceBit, sixthBit, fourthBit, noPart, partLen, partNet, partOf, partIf, ended, vendorAt, messageAt, tailAt, refusedBy, joined, afterTail, afterSource, afterDest, afterVersion, readNpdu}
 use Rattle.npdu.specs.declared.Reading.{Reading}
 use Rattle.npdu.specs.declared.part.Part.{Part}
 use Rattle.npdu.specs.declared.tail.Tail.{Tail}

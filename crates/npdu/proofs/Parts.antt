@@ -11,8 +11,9 @@ use borrow.Author.Tests.{lt-leb, le-ltb, ne-eqb, leb-false, ltb-false, eqb-false
 use Rattle.octets.specs.Choice.{given, pick-cases, pick-case}
 use Rattle.octets.specs.Has.{Has, has-take, has-cut, has-bound}
 use Rattle.octets.specs.Reading.{oct, be16, Octets}
-use Rattle.npdu.specs.Layout.{zeros, cut, partLaid, partOctets, PartValid}
-use Rattle.npdu.specs.Read.{noPart, addressOf, partLen, partNet, partOf, partIf}
+use Rattle.npdu.specs.Layout.{zeros, cut, partLaid, partOctets}
+use Rattle.npdu.specs.Valid.{PartValid}
+use Rattle.npdu.specs.Reading.{noPart, addressOf, partLen, partNet, partOf, partIf}
 use Rattle.npdu.specs.declared.part.Part.{Part}
 
 -- an address cut to its length

@@ -10,7 +10,8 @@ use lib.Seq.{length-take-le}
 use borrow.Author.Tests.{ltb-false, eqb-false, eqb-true}
 use Rattle.octets.specs.Choice.{pick, given, pick-not, pick-cases, by-test}
 use Rattle.npdu.specs.Fault.{partRules, partFault, sooner, faultOf}
-use Rattle.npdu.specs.Layout.{partLaid, partOctets, hopOctets, messageLaid, messageOctets, partsOctets, tailOctets, encode, PartValid, Ruled, Kept}
+use Rattle.npdu.specs.Layout.{partLaid, partOctets, hopOctets, messageLaid, messageOctets, partsOctets, tailOctets, encode}
+use Rattle.npdu.specs.Valid.{PartValid, Ruled, Kept}
 use Rattle.npdu.specs.Size.{partSize, hopSize, kindSize, messageSize, partsSize, tailSize, sizeOf}
 use Rattle.npdu.specs.declared.Npdu.{Npdu}
 
@@ -32,7 +33,7 @@ rules-none net len low top e =
       len-range = ltb-false 7 len (d .0);
     }
 
-fault-here : (here : Bool) (net len low top : ℕ) → partFault here net len low top ≡ 0 → here ≡ true → PartValid net len low top
+pub fault-here : (here : Bool) (net len low top : ℕ) → partFault here net len low top ≡ 0 → here ≡ true → PartValid net len low top
 unfolding partFault given
 fault-here here net len low top e h = rules-none net len low top (rw h at e)
 

@@ -11,7 +11,7 @@ use Rattle.octets.specs.Choice.{pick, given, pick-cases, by-test}
 use Rattle.octets.specs.Has.{Has}
 use Rattle.octets.specs.Reading.{oct, Octets}
 use Rattle.npdu.specs.Layout.{hopOctets, messageLaid, messageOctets}
-use Rattle.npdu.specs.Read.{ended, vendorAt, messageAt, tailAt}
+use Rattle.npdu.specs.Reading.{ended, vendorAt, messageAt, tailAt}
 use Rattle.npdu.specs.declared.tail.Tail.{Tail}
 
 -- the vendor of a message of this type

@@ -1,5 +1,8 @@
 pub mod Layout
+pub mod Valid
 pub mod Fault
-pub mod Read
+pub mod Reading
 pub mod Size
-pub mod Follow
+pub mod Exact
+pub mod Rows
+pub mod Address

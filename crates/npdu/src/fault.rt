@@ -4,7 +4,7 @@ ghost use mathlib.Core.Path.{_≡_};
 ghost use Rattle.npdu.specs.Fault.{partFault, faultOf};
 
 // A part's refusal, or 0: an absent part is not looked at.
-fn part_fault(here: bool, net: u16, len: u8, low: u8, top: u16) -> u8
+pub fn part_fault(here: bool, net: u16, len: u8, low: u8, top: u16) -> u8
     ensures { λ r. ⌜ r ≡ partFault here net len low top ⌝ }
 {
     if here {

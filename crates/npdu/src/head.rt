@@ -6,7 +6,7 @@ use crate::tail::Tail;
 ghost use mathlib.Core.Path.{_≡_};
 ghost use Prim.Native.Nat.{_≤_};
 ghost use lib.ListN.{length};
-ghost use Rattle.npdu.specs.Read.{refusedBy, afterTail, afterSource, afterDest, afterVersion};
+ghost use Rattle.npdu.specs.Reading.{refusedBy, afterTail, afterSource, afterDest, afterVersion};
 
 // A refusal: every other field is 0.
 pub fn refused_by(n: u8) -> Reading

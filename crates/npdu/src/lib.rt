@@ -1,4 +1,5 @@
 // The network header (clause 6.2), read and written.
+pub mod addresses; // addresses.rt: a header's source and destination as values
 mod fault;
 mod head;
 mod layout;
@@ -9,7 +10,7 @@ ghost use mathlib.Core.Path.{_≡_};
 ghost use Rattle.octets.specs.Laid.{Laid};
 ghost use Rattle.npdu.specs.Layout.{encode};
 ghost use Rattle.npdu.specs.Fault.{faultOf};
-ghost use Rattle.npdu.specs.Read.{readNpdu};
+ghost use Rattle.npdu.specs.Reading.{readNpdu};
 
 // A header's fields. Those of an absent part, and address octets past the length, are read as 0 and are not looked at in writing.
 pub struct Npdu {
@@ -27,6 +28,14 @@ pub struct Npdu {
     pub hops: u8,
     pub kind: u8,
     pub vendor: u16,
+}
+
+// An address on a network: a header's source or its destination. Without one, present is false and all else 0.
+pub struct Address {
+    pub present: bool,
+    pub network: u16,
+    pub length: u8,
+    pub octets: [u8; 7],
 }
 
 // What reading gives: a refusal number, or 0 with the header and the place where what follows it begins.

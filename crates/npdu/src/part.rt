@@ -2,7 +2,7 @@
 ghost use mathlib.Core.Path.{_≡_};
 ghost use Prim.Native.Nat.{_+_, _≤_};
 ghost use lib.ListN.{length};
-ghost use Rattle.npdu.specs.Read.{addressOf, noPart, partNet, partOf, partIf};
+ghost use Rattle.npdu.specs.Reading.{addressOf, noPart, partNet, partOf, partIf};
 
 // What reading a part gives: a refusal number, or 0 with the place after the part and its fields.
 pub struct Part {
@@ -28,7 +28,7 @@ fn no_part(refused: u8, next: usize) -> Part
 }
 
 // The n octets at a place, and 0 up to seven.
-fn address(s: &[u8], at: usize, n: usize) -> [u8; 7]
+pub fn address(s: &[u8], at: usize, n: usize) -> [u8; 7]
     requires { ⌜ (n ≤ 7) × (at + n ≤ length (now s)) ⌝ }
     ensures { λ r. ⌜ r ≡ addressOf (now (s .entry)) at n ⌝ }
 {

@@ -2,7 +2,7 @@
 ghost use mathlib.Core.Path.{_≡_};
 ghost use Prim.Native.Nat.{_≤_};
 ghost use lib.ListN.{length};
-ghost use Rattle.npdu.specs.Read.{ended, vendorAt, messageAt, tailAt};
+ghost use Rattle.npdu.specs.Reading.{ended, vendorAt, messageAt, tailAt};
 
 // What reading the end gives: a refusal number, or 0 with the place after the header and the fields.
 pub struct Tail {

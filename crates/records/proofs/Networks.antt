@@ -10,8 +10,8 @@ use Rattle.octets.specs.Reading.{Octets, oct}
 use Rattle.octets.specs.Splice.{splice}
 use Rattle.octets.specs.Has.{Has, has-append, has-left, has-right, has-take, has-cut, has-all, all-has}
 use Rattle.npdu.specs.declared.Npdu.{Npdu}
-use Rattle.npdu.specs.Layout.{Kept}
-use Rattle.npdu.specs.Read.{readNpdu}
+use Rattle.npdu.specs.Valid.{Kept}
+use Rattle.npdu.specs.Reading.{readNpdu}
 use Rattle.npdu.proofs.Exact.{head-sound}
 use Rattle.records.specs.Flag.{flag, flag-back}
 use Rattle.records.specs.Network.{front, middle, rest, npduRecord, npduAt}

@@ -3,7 +3,7 @@ use mathlib.Core.Path.{_≡_, sym, _∙_}
 use borrow.Author.Needs.{needs}
 use Rattle.octets.specs.Laid.{laid-fault, laid-short, laid-over}
 use Rattle.npdu.specs.Fault.{faultOf}
-use Rattle.npdu.specs.Layout.{Kept}
+use Rattle.npdu.specs.Valid.{Kept}
 use Rattle.npdu.proofs.Sizes.{fault-none, head-length}
 use Rattle.npdu.proofs.write.Statement.{statement}
 use Rattle.npdu.proofs.write.Tie as tie

@@ -1,6 +1,6 @@
 use borrow.Author.Needs.{needs}
 use Rattle.octets.specs.Rules.{tests}
-use Rattle.npdu.specs.Read.{afterDest}
+use Rattle.npdu.specs.Reading.{afterDest}
 use Rattle.npdu.proofs.Outcome.{part-within}
 use Rattle.npdu.proofs.head.after_dest.Statement.{statement}
 use Rattle.npdu.proofs.head.after_dest.Tie as tie

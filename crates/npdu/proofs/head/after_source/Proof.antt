@@ -1,6 +1,6 @@
 use borrow.Author.Needs.{needs}
 use Rattle.octets.specs.Rules.{tests}
-use Rattle.npdu.specs.Read.{afterSource}
+use Rattle.npdu.specs.Reading.{afterSource}
 use Rattle.npdu.proofs.head.after_source.Statement.{statement}
 use Rattle.npdu.proofs.head.after_source.Tie as tie
 

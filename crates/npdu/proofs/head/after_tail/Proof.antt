@@ -1,6 +1,6 @@
 use borrow.Author.Needs.{needs}
 use Rattle.octets.specs.Rules.{tests}
-use Rattle.npdu.specs.Read.{afterTail, joined}
+use Rattle.npdu.specs.Reading.{afterTail, joined}
 use Rattle.npdu.proofs.head.after_tail.Statement.{statement}
 use Rattle.npdu.proofs.head.after_tail.Tie as tie
 

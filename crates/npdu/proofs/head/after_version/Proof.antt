@@ -1,6 +1,6 @@
 use borrow.Author.Needs.{needs}
 use Rattle.octets.specs.Rules.{tests}
-use Rattle.npdu.specs.Read.{afterVersion}
+use Rattle.npdu.specs.Reading.{afterVersion}
 use Rattle.npdu.proofs.Outcome.{part-within}
 use Rattle.npdu.proofs.head.after_version.Statement.{statement}
 use Rattle.npdu.proofs.head.after_version.Tie as tie

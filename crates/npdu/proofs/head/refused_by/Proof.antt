@@ -1,5 +1,5 @@
 use mathlib.Core.Path.{refl}
-use Rattle.npdu.specs.Read.{refusedBy}
+use Rattle.npdu.specs.Reading.{refusedBy}
 use Rattle.npdu.proofs.head.refused_by.Statement.{statement}
 use Rattle.npdu.proofs.head.refused_by.Tie as tie
 

@@ -6,7 +6,8 @@ use lib.ListN.{length, length-set}
 use denote.Ref.{now}
 use borrow.Author.Needs.{needs}
 use Rattle.octets.specs.Splice.{splice-then, splice-sets}
-use Rattle.npdu.specs.Layout.{controlOf, partsOctets, encode, Kept}
+use Rattle.npdu.specs.Layout.{controlOf, partsOctets, encode}
+use Rattle.npdu.specs.Valid.{Kept}
 use Rattle.npdu.specs.Size.{partsSize, sizeOf}
 use Rattle.npdu.proofs.Sizes.{fault-none, parts-length, tail-length}
 use Rattle.npdu.proofs.layout.put_head.Statement.{statement}

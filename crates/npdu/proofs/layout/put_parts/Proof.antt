@@ -3,7 +3,8 @@ use mathlib.Core.Path.{sym, _∙_}
 use denote.Ref.{now}
 use borrow.Author.Needs.{needs}
 use Rattle.octets.specs.Splice.{splice-then}
-use Rattle.npdu.specs.Layout.{partOctets, partsOctets, Kept}
+use Rattle.npdu.specs.Layout.{partOctets, partsOctets}
+use Rattle.npdu.specs.Valid.{Kept}
 use Rattle.npdu.specs.Size.{partsSize}
 use Rattle.npdu.proofs.Sizes.{fault-none, part-length}
 use Rattle.npdu.proofs.layout.put_parts.Statement.{statement}

@@ -1,5 +1,5 @@
 use mathlib.Core.Path.{refl}
-use Rattle.npdu.specs.Read.{noPart}
+use Rattle.npdu.specs.Reading.{noPart}
 use Rattle.npdu.proofs.part.no_part.Statement.{statement}
 use Rattle.npdu.proofs.part.no_part.Tie as tie
 

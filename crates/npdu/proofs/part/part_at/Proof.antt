@@ -1,6 +1,6 @@
 use borrow.Author.Needs.{needs}
 use Rattle.octets.specs.Rules.{tests}
-use Rattle.npdu.specs.Read.{partOf}
+use Rattle.npdu.specs.Reading.{partOf}
 use Rattle.npdu.proofs.part.part_at.Statement.{statement}
 use Rattle.npdu.proofs.part.part_at.Tie as tie
 

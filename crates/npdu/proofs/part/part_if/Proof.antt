@@ -1,6 +1,6 @@
 use borrow.Author.Needs.{needs}
 use Rattle.octets.specs.Rules.{tests, flags}
-use Rattle.npdu.specs.Read.{partIf}
+use Rattle.npdu.specs.Reading.{partIf}
 use Rattle.npdu.proofs.part.part_if.Statement.{statement}
 use Rattle.npdu.proofs.part.part_if.Tie as tie
 

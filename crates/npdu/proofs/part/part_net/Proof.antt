@@ -1,6 +1,6 @@
 use borrow.Author.Needs.{needs}
 use Rattle.octets.specs.Rules.{tests}
-use Rattle.npdu.specs.Read.{partNet, partLen}
+use Rattle.npdu.specs.Reading.{partNet, partLen}
 use Rattle.npdu.proofs.part.part_net.Statement.{statement}
 use Rattle.npdu.proofs.part.part_net.Tie as tie
 

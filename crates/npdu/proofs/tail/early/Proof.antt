@@ -1,5 +1,5 @@
 use mathlib.Core.Path.{refl}
-use Rattle.npdu.specs.Read.{ended}
+use Rattle.npdu.specs.Reading.{ended}
 use Rattle.npdu.proofs.tail.early.Statement.{statement}
 use Rattle.npdu.proofs.tail.early.Tie as tie
 

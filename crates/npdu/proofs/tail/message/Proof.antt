@@ -1,6 +1,6 @@
 use borrow.Author.Needs.{needs}
 use Rattle.octets.specs.Rules.{tests, flags}
-use Rattle.npdu.specs.Read.{messageAt, ended}
+use Rattle.npdu.specs.Reading.{messageAt, ended}
 use Rattle.npdu.proofs.tail.message.Statement.{statement}
 use Rattle.npdu.proofs.tail.message.Tie as tie
 

@@ -1,6 +1,6 @@
 use borrow.Author.Needs.{needs}
 use Rattle.octets.specs.Rules.{tests, flags}
-use Rattle.npdu.specs.Read.{tailAt}
+use Rattle.npdu.specs.Reading.{tailAt}
 use Rattle.npdu.proofs.tail.tail_at.Statement.{statement}
 use Rattle.npdu.proofs.tail.tail_at.Tie as tie
 

@@ -1,5 +1,5 @@
 use Rattle.records.proofs.Networks.{npdu-laid}
-use Rattle.npdu.specs.Layout.{Kept}
+use Rattle.npdu.specs.Valid.{Kept}
 use borrow.Author.Needs.{needs}
 use Rattle.records.proofs.network.put.Statement.{statement}
 use Rattle.records.proofs.network.put.Tie as tie

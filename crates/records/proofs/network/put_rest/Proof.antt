@@ -3,7 +3,7 @@ use Rattle.records.specs.Network.{middle, rest}
 use Rattle.records.proofs.Areas.{three-laid}
 use mathlib.Core.Path.{refl}
 use native.Mathlib.Omega.{arith}
-use Rattle.npdu.specs.Layout.{Kept}
+use Rattle.npdu.specs.Valid.{Kept}
 use borrow.Author.Needs.{needs}
 use Rattle.records.proofs.network.put_rest.Statement.{statement}
 use Rattle.records.proofs.network.put_rest.Tie as tie

@@ -3,8 +3,9 @@ use Prim.Native.Nat.{ℕ}
 use mathlib.Core.List.{List, _++_}
 use mathlib.Core.Path.{_≡_}
 use lib.ListN.{drop}
-use Rattle.npdu.specs.Layout.{encode, Valid}
-use Rattle.npdu.specs.Read.{readNpdu}
+use Rattle.npdu.specs.Layout.{encode}
+use Rattle.npdu.specs.Valid.{Valid}
+use Rattle.npdu.specs.Reading.{readNpdu}
 use Rattle.npdu.specs.declared.Npdu.{Npdu}
 use Rattle.npdu.specs.declared.Reading.{Reading}
 

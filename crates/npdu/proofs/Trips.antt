@@ -11,16 +11,17 @@ use Rattle.octets.specs.Laid.{Laid, laid-one, laid-wrote}
 use Rattle.octets.specs.declared.Written.{Written}
 use Rattle.octets.specs.declared.Written.the-variants.{Wrote}
 use Rattle.npdu.specs.Fault.{partRules, partFault, sooner, faultOf}
-use Rattle.npdu.specs.Follow.{accepted}
-use Rattle.npdu.specs.Layout.{encode, shown, PartValid, Ruled, Kept}
-use Rattle.npdu.specs.Read.{readNpdu}
+use Rattle.npdu.specs.Exact.{accepted}
+use Rattle.npdu.specs.Layout.{encode, shown}
+use Rattle.npdu.specs.Valid.{PartValid, Ruled, Kept}
+use Rattle.npdu.specs.Reading.{readNpdu}
 use Rattle.npdu.specs.declared.Npdu.{Npdu}
 use Rattle.npdu.specs.declared.Reading.{Reading}
 use Rattle.npdu.proofs.Exact.{reads-written}
 use Rattle.npdu.proofs.Sizes.{fault-none}
 
 -- a header that keeps to the rules is not refused
-rules-fine : (here : Bool) (net len low top : ℕ) → (here ≡ true → PartValid net len low top) → partFault here net len low top ≡ 0
+pub rules-fine : (here : Bool) (net len low top : ℕ) → (here ≡ true → PartValid net len low top) → partFault here net len low top ≡ 0
 unfolding partFault partRules given
 rules-fine true net len low top v =
     let w = v refl in
