@@ -15,6 +15,7 @@ use Rattle.messages.specs.Rows.{forgetNumber}
 use Rattle.rebuild.specs.View.{keys, unview}
 use Rattle.rebuild.specs.declared.Key.{Key}
 use Rattle.rebuild.proofs.Seen.{view-one, view-unview}
+use Rattle.reports.specs.Layout.{reportSize}
 use Rattle.collector.specs.Calls.{passing, sound, box, written, saidSo, slotsOf, Answered, feedRefusal, feeding, Feeds, silenceRefusal, stilling, Stills, Forgets}
 use Rattle.collector.specs.Offering.{End, told, Kept, calls, Called}
 use Rattle.collector.specs.declared.Collector.{Collector}
@@ -54,15 +55,15 @@ told-said none report = refl
 told-said (some y) report = refl
 
 -- with a report area of 16 octets a piece's answer is the box's
-pub feeding-box : (c : Collector) (report area piece : List ℕ) → length report ≡ 16 → feeding c report area piece ≡ box .feed (c .receiver) (slotsOf c) area piece
+pub feeding-box : (c : Collector) (report area piece : List ℕ) → length report ≡ reportSize → feeding c report area piece ≡ box .feed (c .receiver) (slotsOf c) area piece
 unfolding feeding
-feeding-box c report area piece k = rw (eq-eqb (length report) 16 k)
+feeding-box c report area piece k = rw (eq-eqb (length report) reportSize k)
 
 -- a silence's answer does not look at the area
-pub stilling-box : (c : Collector) (report area : List ℕ) → length report ≡ 16
+pub stilling-box : (c : Collector) (report area : List ℕ) → length report ≡ reportSize
     → (let d = stilling c report [] in answer 0 (d .said) (d .state) (d .slots) area ≡ box .still (c .receiver) (slotsOf c) area)
 unfolding stilling
-stilling-box c report area k = rw (eq-eqb (length report) 16 k) (by-test (passing (slotsOf c)) (λ e. rw e) (λ e. rw e))
+stilling-box c report area k = rw (eq-eqb (length report) reportSize k) (by-test (passing (slotsOf c)) (λ e. rw e) (λ e. rw e))
 
 -- ---- a collector with its area, as the box sees it
 abbrev pub Boxed : Type 0
@@ -94,11 +95,11 @@ called =
       forgets = λ s t x i e h. (seen t, rw (e, h .leaves, h .area, h .promise .receiver, h .promise .slots), refl);
     }
 
--- ---- and every call of the box can be made: a report area of 16 octets
+-- ---- and every call of the box can be made: a report area of its size
 blank : List ℕ
-blank = replicate 16 0
+blank = replicate reportSize 0
 
-sixteen : length blank ≡ 16
+sixteen : length blank ≡ reportSize
 unfolding blank
 sixteen = refl
 

@@ -22,8 +22,9 @@ use Rattle.rebuild.specs.Calls as Rebuild
 use Rattle.rebuild.specs.declared.Slots.{Slots}
 use Rattle.rebuild.specs.declared.Forgot.{Forgot as Freed}
 use Rattle.recordings.specs.Frames.{rules}
-use Rattle.collector.specs.Report.{damaged}
-use Rattle.collector.specs.Frame.{contentOf, bacnet}
+use Rattle.reports.specs.Layout.{reportSize}
+use Rattle.collector.specs.Heard.{heardOf}
+use Rattle.collector.specs.Frame.{contentOf, bacnet, damageOctets}
 use Rattle.collector.specs.Acting.{acting, Acted}
 use Rattle.collector.specs.Calls.{passing, slotsOf, sound, Answered, feedRefusal, feeding, Tells, Feeds, silenceRefusal, stilling, Falls, Stills, Forgets}
 use Rattle.collector.specs.Lent as Lent
@@ -62,20 +63,20 @@ module _ (c : Collector) (report area piece : List ℕ) where
       → Feeds c report area piece r report′ area′
   tells-by e q h = rw (e, q) h
 
-  pub feeds-line : (length report ≡ 16 → ⊥) → Feeds c report area piece (unfedBy 60 c) report area
+  pub feeds-line : (length report ≡ reportSize → ⊥) → Feeds c report area piece (unfedBy 60 c) report area
   unfolding feedRefusal feeding
-  feeds-line h = tells-by (rw (ne-eqb (length report) 16 h)) (rw (ne-eqb (length report) 16 h)) (tells-not 60 c report area)
+  feeds-line h = tells-by (rw (ne-eqb (length report) reportSize h)) (rw (ne-eqb (length report) reportSize h)) (tells-not 60 c report area)
 
-  pub feeds-area : length report ≡ 16 → (length area ≡ 65536 → ⊥) → Feeds c report area piece (unfedBy 60 c) report area
+  pub feeds-area : length report ≡ reportSize → (length area ≡ 65536 → ⊥) → Feeds c report area piece (unfedBy 60 c) report area
   unfolding feedRefusal feeding
   feeds-area k h =
-      tells-by (rw (eq-eqb (length report) 16 k, ne-eqb (length area) 65536 h)) (rw (eq-eqb (length report) 16 k, ne-eqb (length area) 65536 h)) (tells-not 60 c report area)
+      tells-by (rw (eq-eqb (length report) reportSize k, ne-eqb (length area) 65536 h)) (rw (eq-eqb (length report) reportSize k, ne-eqb (length area) 65536 h)) (tells-not 60 c report area)
 
-  module _ (k : length report ≡ 16) (z : length area ≡ 65536) where
+  module _ (k : length report ≡ reportSize) (z : length area ≡ 65536) where
     pub feeds-slots : passing (slotsOf c) ≡ false → Feeds c report area piece (unfedBy 59 c) report area
     unfolding feedRefusal feeding
     feeds-slots e =
-        tells-by (rw (eq-eqb (length report) 16 k, eq-eqb (length area) 65536 z) (slots-59 c 0 e)) (rw (eq-eqb (length report) 16 k, eq-eqb (length area) 65536 z, e)) (tells-not 59 c report area)
+        tells-by (rw (eq-eqb (length report) reportSize k, eq-eqb (length area) 65536 z) (slots-59 c 0 e)) (rw (eq-eqb (length report) reportSize k, eq-eqb (length area) 65536 z, e)) (tells-not 59 c report area)
 
     -- past the refusals it is the receiver's answer and then the rules
     pub feeds-on : passing (slotsOf c) ≡ true → {f : Ended} {r : Fed} {report′ area′ : List ℕ} → f ≡ feedOf (c .receiver) piece
@@ -84,9 +85,9 @@ module _ (c : Collector) (report area piece : List ℕ) where
     feeds-on p {f = f} e h =
         let fed = feedOf (c .receiver) piece in
         let n : feedRefusal c report area ≡ f .refused =
-        rw (eq-eqb (length report) 16 k, eq-eqb (length area) 65536 z) (slots-pass c 0 p ∙ sym (feed-refused (c .receiver) piece) ∙ ap (λ (f : Ended). f .refused) (sym e)) in
+        rw (eq-eqb (length report) reportSize k, eq-eqb (length area) 65536 z) (slots-pass c 0 p ∙ sym (feed-refused (c .receiver) piece) ∙ ap (λ (f : Ended). f .refused) (sym e)) in
         let d : feeding c report area piece ≡ ruled (rules keys bacnet) (slotsOf c) area f =
-        rw (eq-eqb (length report) 16 k, eq-eqb (length area) 65536 z, p) (ap (λ (f : Ended). ruled (rules keys bacnet) (slotsOf c) area f) (sym e)) in
+        rw (eq-eqb (length report) reportSize k, eq-eqb (length area) 65536 z, p) (ap (λ (f : Ended). ruled (rules keys bacnet) (slotsOf c) area f) (sym e)) in
         tells-by n d h
 
 -- over a lent store
@@ -130,12 +131,14 @@ module _ (f : Ended) (s : Slots) (report area : List ℕ) where
       → Tells (f .refused) (ruled (rules keys bacnet) (view s) area f) report (record { refused = f .refused; eaten = f .eaten; reported = false; state = record { receiver = f .receiver; slots = s } }) report area
   tells-quiet e = rw e (record { refused = refl; eaten = refl; reported = refl; receiver = refl; slots = refl; reportAfter = refl; areaAfter = refl })
 
-  pub tells-damage : (n : ℕ) {report′ : List ℕ} → f .outcome ≡ Damage n → report′ ≡ damaged n
+  pub tells-damage : (n : ℕ) {report′ : List ℕ} → f .outcome ≡ Damage n → report′ ≡ damageOctets n
       → Tells (f .refused) (ruled (rules keys bacnet) (view s) area f) report (record { refused = f .refused; eaten = f .eaten; reported = true; state = record { receiver = f .receiver; slots = s } }) report′ area
   tells-damage n e h = rw e (record { refused = refl; eaten = refl; reported = refl; receiver = refl; slots = refl; reportAfter = h; areaAfter = refl })
 
   pub tells-frame : {t : Slots} {report′ area′ : List ℕ} → f .outcome ≡ Frame
-      → (let head = f .receiver .link .head in Acted (acting head (contentOf head (take (lengthOf head) (f .receiver .store))) (view s) area) t report′ area′)
+      → (let head = f .receiver .link .head in
+      let w = heardOf head in
+      Acted (acting w (contentOf w (take (lengthOf head) (f .receiver .store))) (view s) area) t report′ area′)
       → Tells (f .refused) (ruled (rules keys bacnet) (view s) area f) report (record { refused = f .refused; eaten = f .eaten; reported = true; state = record { receiver = f .receiver; slots = t } }) report′ area′
   tells-frame e h =
       let head = f .receiver .link .head in
@@ -154,33 +157,33 @@ module _ (c : Collector) (report : List ℕ) where
   falls-not : (n : ℕ) → Falls n (unmoved (c .receiver) (slotsOf c) []) report (quietBy n c) report
   falls-not n = record { refused = refl; reported = refl; receiver = refl; slots = refl; reportAfter = refl }
 
-  pub stills-line : (length report ≡ 16 → ⊥) → Stills c report (quietBy 60 c) report
+  pub stills-line : (length report ≡ reportSize → ⊥) → Stills c report (quietBy 60 c) report
   unfolding silenceRefusal stilling
-  stills-line h = falls-by (rw (ne-eqb (length report) 16 h)) (rw (ne-eqb (length report) 16 h)) (falls-not 60)
+  stills-line h = falls-by (rw (ne-eqb (length report) reportSize h)) (rw (ne-eqb (length report) reportSize h)) (falls-not 60)
 
-  pub stills-slots : length report ≡ 16 → passing (slotsOf c) ≡ false → Stills c report (quietBy 59 c) report
+  pub stills-slots : length report ≡ reportSize → passing (slotsOf c) ≡ false → Stills c report (quietBy 59 c) report
   unfolding silenceRefusal stilling
-  stills-slots k e = falls-by (rw (eq-eqb (length report) 16 k) (slots-59 c 0 e)) (rw (eq-eqb (length report) 16 k, e)) (falls-not 59)
+  stills-slots k e = falls-by (rw (eq-eqb (length report) reportSize k) (slots-59 c 0 e)) (rw (eq-eqb (length report) reportSize k, e)) (falls-not 59)
 
-  pub stills-on : length report ≡ 16 → passing (slotsOf c) ≡ true → {f : Still} {r : Fell} {report′ : List ℕ} → f ≡ silenceOf (c .receiver)
-      → Falls (f .refused) (stilled damaged (slotsOf c) [] f) report r report′ → Stills c report r report′
+  pub stills-on : length report ≡ reportSize → passing (slotsOf c) ≡ true → {f : Still} {r : Fell} {report′ : List ℕ} → f ≡ silenceOf (c .receiver)
+      → Falls (f .refused) (stilled damageOctets (slotsOf c) [] f) report r report′ → Stills c report r report′
   unfolding silenceRefusal stilling
   stills-on k p {f = f} e h =
       let n : silenceRefusal c report ≡ f .refused =
-      rw (eq-eqb (length report) 16 k) (slots-pass c 0 p ∙ sym (silence-refused (c .receiver)) ∙ ap (λ (f : Still). f .refused) (sym e)) in
-      let d : stilling c report [] ≡ stilled damaged (slotsOf c) [] f =
-      rw (eq-eqb (length report) 16 k, p) (ap (λ (f : Still). stilled damaged (slotsOf c) [] f) (sym e)) in
+      rw (eq-eqb (length report) reportSize k) (slots-pass c 0 p ∙ sym (silence-refused (c .receiver)) ∙ ap (λ (f : Still). f .refused) (sym e)) in
+      let d : stilling c report [] ≡ stilled damageOctets (slotsOf c) [] f =
+      rw (eq-eqb (length report) reportSize k, p) (ap (λ (f : Still). stilled damageOctets (slotsOf c) [] f) (sym e)) in
       falls-by n d h
 
 module _ (f : Still) (s : Slots) (report : List ℕ) where
-  pub falls-quiet : f .outcome ≡ Quiet → Falls (f .refused) (stilled damaged (view s) [] f) report (quietBy (f .refused) (record { receiver = f .receiver; slots = s })) report
+  pub falls-quiet : f .outcome ≡ Quiet → Falls (f .refused) (stilled damageOctets (view s) [] f) report (quietBy (f .refused) (record { receiver = f .receiver; slots = s })) report
   falls-quiet e = rw e (record { refused = refl; reported = refl; receiver = refl; slots = refl; reportAfter = refl })
 
-  pub falls-frame : f .outcome ≡ Frame → Falls (f .refused) (stilled damaged (view s) [] f) report (quietBy (f .refused) (record { receiver = f .receiver; slots = s })) report
+  pub falls-frame : f .outcome ≡ Frame → Falls (f .refused) (stilled damageOctets (view s) [] f) report (quietBy (f .refused) (record { receiver = f .receiver; slots = s })) report
   falls-frame e = rw e (record { refused = refl; reported = refl; receiver = refl; slots = refl; reportAfter = refl })
 
-  pub falls-damage : (n : ℕ) {report′ : List ℕ} → f .outcome ≡ Damage n → report′ ≡ damaged n
-      → Falls (f .refused) (stilled damaged (view s) [] f) report (record { refused = f .refused; reported = true; state = record { receiver = f .receiver; slots = s } }) report′
+  pub falls-damage : (n : ℕ) {report′ : List ℕ} → f .outcome ≡ Damage n → report′ ≡ damageOctets n
+      → Falls (f .refused) (stilled damageOctets (view s) [] f) report (record { refused = f .refused; reported = true; state = record { receiver = f .receiver; slots = s } }) report′
   falls-damage n e h = rw e (record { refused = refl; reported = refl; receiver = refl; slots = refl; reportAfter = h })
 
 -- ---- a forget order

@@ -12,53 +12,64 @@ use Rattle.octets.specs.Choice.{given-true, given-false, given-cases, impossibl
 use Rattle.octets.specs.Reading.{oct}
 use Rattle.npdu.specs.Reading.{readNpdu}
 use Rattle.npdu.specs.declared.Reading.{Reading}
+use Rattle.npdu.proofs.Outcome.{next-within}
 use Rattle.apdu.specs.Reading.{readApdu}
-use Rattle.apdu.specs.Fields.{kindOf, invokeOf, choiceOf, segmentOf, tailEnd, paramsAt}
+use Rattle.apdu.proofs.Exact.{params-within}
+use Rattle.apdu.specs.Fields.{tailEnd, paramsAt}
 use Rattle.apdu.specs.declared.Pdu.{Pdu}
 use Rattle.apdu.specs.declared.Pdu.the-variants.{Request, Unconfirmed, SimpleAck, ComplexAck, SegmentAck, Error, Reject, Abort}
 use Rattle.apdu.specs.declared.Answer.the-variants.{Good, Refused}
-use Rattle.apdu.specs.declared.Segment.{Segment}
 use Rattle.items.specs.Reading.{Out, itemsOf, counted}
 use Rattle.items.specs.Reading.Out.{good, bad}
 use Rattle.items.specs.declared.Tally.{Tally}
 use Rattle.items.specs.declared.Tally.the-variants.{Items}
-use Rattle.messages.specs.Slots.{room, part}
+use Rattle.messages.specs.Slots.{part}
 use Rattle.rebuild.specs.View as View
-use Rattle.collector.specs.Report.{reportOctets, complete, refusal}
-use Rattle.collector.specs.Frame.{segmentFrom, byTags, plainReport, apduContent, npduContent, contentOf}
-use Rattle.collector.specs.Frame.Content.{other, refuses, network, message}
+use Rattle.rebuild.specs.declared.Step.the-variants.{Complete}
+use Rattle.reports.specs.Layout.{reportOctets}
+use Rattle.reports.specs.Kinds.{unsegmented, complete, refusal}
+use Rattle.reports.specs.declared.Report.{Report}
+use Rattle.collector.specs.Heard.{partsOf}
+use Rattle.collector.specs.Frame.{keyOf, segmentFrom, byTags, plainReport, stepReport, apduContent, npduContent, contentOf}
+use Rattle.collector.specs.Frame.Content.{other, refuses, network, refusesBehind, message}
+use Rattle.collector.specs.declared.heard.Heard.{Heard}
+use Rattle.collector.specs.declared.heard.Parts.{Parts}
 
 -- a frame of type 5, of type 6, of another type
-pub content-5 : (head payload : List ℕ) → oct head 0 ≡ 5 → contentOf head payload ≡ npduContent payload (readNpdu payload)
-unfolding contentOf
-content-5 head payload e = rw (eq-eqb (oct head 0) 5 e)
+module _ (w : Heard) (payload : List ℕ) where
+  pub content-5 : w .frame .kind ≡ 5 → contentOf w payload ≡ npduContent payload (readNpdu payload)
+  unfolding contentOf
+  content-5 e = rw (eq-eqb (w .frame .kind) 5 e)
 
-pub content-6 : (head payload : List ℕ) → (oct head 0 ≡ 5 → ⊥) → oct head 0 ≡ 6 → contentOf head payload ≡ npduContent payload (readNpdu payload)
-unfolding contentOf
-content-6 head payload ne e = rw (ne-eqb (oct head 0) 5 ne, eq-eqb (oct head 0) 6 e)
+  pub content-6 : (w .frame .kind ≡ 5 → ⊥) → w .frame .kind ≡ 6 → contentOf w payload ≡ npduContent payload (readNpdu payload)
+  unfolding contentOf
+  content-6 ne e = rw (ne-eqb (w .frame .kind) 5 ne, eq-eqb (w .frame .kind) 6 e)
 
-pub content-other : (head payload : List ℕ) → (oct head 0 ≡ 5 → ⊥) → (oct head 0 ≡ 6 → ⊥) → contentOf head payload ≡ other (length payload)
-unfolding contentOf
-content-other head payload n5 n6 = rw (ne-eqb (oct head 0) 5 n5, ne-eqb (oct head 0) 6 n6)
+  pub content-other : (w .frame .kind ≡ 5 → ⊥) → (w .frame .kind ≡ 6 → ⊥) → contentOf w payload ≡ other (length payload)
+  unfolding contentOf
+  content-other n5 n6 = rw (ne-eqb (w .frame .kind) 5 n5, ne-eqb (w .frame .kind) 6 n6)
 
-module _ (payload : List ℕ) (n : Reading) where
-  pub npdu-refused : 0 < n .refused → npduContent payload n ≡ refuses (n .refused)
+module _ (payload : List ℕ) (n : Reading) (e : n ≡ readNpdu payload) where
+  pub npdu-refused : 0 < n .refused → npduContent payload (readNpdu payload) ≡ refuses (n .refused)
   unfolding npduContent
-  npdu-refused h = rw (lt-ltb 0 (n .refused) h)
+  npdu-refused h = rw (← e, lt-ltb 0 (n .refused) h)
 
-  pub npdu-network : n .refused ≤ 0 → n .head .message ≡ true → npduContent payload n ≡ network (length payload - n .next)
+  pub npdu-network : n .refused ≤ 0 → n .head .message ≡ true → npduContent payload (readNpdu payload) ≡ network (length payload - n .next)
   unfolding npduContent
-  npdu-network h e = rw (le-ltb 0 (n .refused) h, given-true (n .head .message) (network (length payload - n .next)) _ e)
+  npdu-network h m = rw (← e, le-ltb 0 (n .refused) h, given-true (n .head .message) (network (length payload - n .next)) _ m)
 
-  pub npdu-apdu : n .refused ≤ 0 → n .head .message ≡ false → npduContent payload n ≡ apduContent (drop (n .next) payload) (readApdu (drop (n .next) payload))
+  pub npdu-apdu : n .refused ≤ 0 → n .head .message ≡ false → npduContent payload (readNpdu payload) ≡ apduContent (drop (n .next) payload) (readApdu (drop (n .next) payload))
   unfolding npduContent
-  npdu-apdu h e = rw (le-ltb 0 (n .refused) h, given-false (n .head .message) (network (length payload - n .next)) _ e)
+  npdu-apdu h m = rw (← e, le-ltb 0 (n .refused) h, given-false (n .head .message) (network (length payload - n .next)) _ m)
 
-pub apdu-refused : (a : List ℕ) (n : ℕ) → readApdu a ≡ Refused n → apduContent a (readApdu a) ≡ refuses n
+  pub next-inside : n .next ≤ length payload
+  next-inside = rw e (next-within payload)
+
+pub apdu-refused : (a : List ℕ) (n : ℕ) → readApdu a ≡ Refused n → apduContent a (readApdu a) ≡ refusesBehind n
 apdu-refused a n e = rw e
 
-pub apdu-good : (a : List ℕ) (p : Pdu) → readApdu a ≡ Good p → apduContent a (readApdu a) ≡ message p a
-apdu-good a p e = rw e
+pub apdu-good : (a : List ℕ) (p : Pdu) (m : Parts) → readApdu a ≡ Good p → m ≡ partsOf p (oct a 0) → apduContent a (readApdu a) ≡ message m a
+apdu-good a p m e q = rw (e, q)
 
 -- every header has two octets
 pub params-some : (p : Pdu) → 2 ≤ paramsAt p
@@ -72,16 +83,24 @@ params-some (Error p) = lit≤ tt
 params-some (Reject p) = lit≤ tt
 params-some (Abort p) = lit≤ tt
 
--- tags by their count
-pub tags-good : (head : List ℕ) (x : Out) (fine : List ℕ) (n : ℕ) → counted x ≡ Items n → byTags head x fine ≡ fine
-unfolding counted
-tags-good head (good rs end) fine n e = refl
-tags-good head (bad y) fine n e = impossible (cc)
+-- and lies within the octets that it was read from
+pub some-octets : (a : List ℕ) (p : Pdu) → readApdu a ≡ Good p → 0 < length a
+some-octets a p e = omega (arith, params-some p, params-within a p e)
 
-pub tags-bad : (head : List ℕ) (x : Out) (fine : List ℕ) (y : ℕ) → counted x ≡ Tally.Refused y → byTags head x fine ≡ refusal head y
+pub parts-within : (a : List ℕ) (p : Pdu) (m : Parts) → readApdu a ≡ Good p → m ≡ partsOf p (oct a 0) → m .params ≤ length a
+unfolding partsOf
+parts-within a p m e q = rw q (params-within a p e)
+
+-- tags by their count
+pub tags-good : (x : Out) (fine : Report) (n : ℕ) → counted x ≡ Items n → byTags x fine ≡ fine
 unfolding counted
-tags-bad head (good rs end) fine y e = impossible (cc)
-tags-bad head (bad z) fine y e = let q : z ≡ y = cc in ap (refusal head) q
+tags-good (good rs end) fine n e = refl
+tags-good (bad y) fine n e = impossible (cc)
+
+pub tags-bad : (x : Out) (fine : Report) (y : ℕ) → counted x ≡ Tally.Refused y → byTags x fine ≡ refusal (fine .frame) y
+unfolding counted
+tags-bad (good rs end) fine y e = impossible (cc)
+tags-bad (bad z) fine y e = let q : z ≡ y = cc in ap (refusal (fine .frame)) q
 
 -- ---- parts of a slice, as the code lends them
 pub part-rest : (s : List ℕ) (at : ℕ) → take (length s - at) (drop at s) ≡ drop at s
@@ -90,19 +109,18 @@ part-rest s at = ap (λ (n : ℕ). take n (drop at s)) (sym (length-drop at s)) 
 pub part-from : (s : List ℕ) (from n : ℕ) → take (from + n - from) (drop from s) ≡ part from n s
 part-from s from n = let e : from + n - from ≡ n = omega arith in rw e
 
--- ---- the functions of a PDU in place of its fields
-module _ (head : List ℕ) (p : Pdu) (a : List ℕ) where
-  pub plain-put : {at invoke choice : ℕ} {report : List ℕ} → at ≡ paramsAt p → invoke ≡ invokeOf p → choice ≡ choiceOf p
-      → report ≡ byTags head (itemsOf (take (length a - at) (drop at a))) (reportOctets 3 0 head (oct a 0) invoke 0 (length a) choice)
-      → report ≡ plainReport head (message p a)
-  plain-put e i h q = q ∙ rw (e, i, h, part-rest a (paramsAt p))
+-- ---- what is lent, in place of what the definitions name
+module _ (w : Heard) (m : Parts) (a : List ℕ) where
+  pub plain-put : {r : Report} {report : List ℕ} → r ≡ unsegmented (w .frame) (m .apdu) (length a)
+      → report ≡ reportOctets (byTags (itemsOf (take (length a - m .params) (drop (m .params) a))) r)
+      → report ≡ reportOctets (plainReport w (message m a))
+  plain-put e q = q ∙ rw (e, part-rest a (m .params))
 
-  pub complete-put : {invoke choice : ℕ} {report : List ℕ} (slot total at : ℕ) (area : List ℕ) → invoke ≡ invokeOf p → choice ≡ choiceOf p → at ≡ slot
-      → report ≡ byTags head (itemsOf (take (16384 * at + total - 16384 * at) (drop (16384 * at) area))) (reportOctets 5 0 head (oct a 0) invoke slot total choice)
-      → report ≡ byTags head (itemsOf (part (room * slot) total area)) (complete head (oct a 0) (invokeOf p) slot total (choiceOf p))
-  complete-put slot total at area i h e q = q ∙ rw (e, i, h, part-from area (16384 * slot) total)
+  pub segment-is :
+      View.segmentOf (record { key = keyOf w m; number = m .segment .number; mor = m .segment .mor; choice = m .apdu .choice }) (take (length a - m .params) (drop (m .params) a)) ≡ segmentFrom w m a
+  segment-is = rw (part-rest a (m .params))
 
-  pub segment-is : {s : Segment} {at kind invoke choice : ℕ} → s ≡ segmentOf p → at ≡ paramsAt p → kind ≡ kindOf p → invoke ≡ invokeOf p → choice ≡ choiceOf p
-      → View.segmentOf (record { key = record { source = oct head 2; destination = oct head 1; kind = kind; invoke = invoke }; number = s .number; mor = s .mor; choice = choice }) (take (length a - at) (drop at a))
-      ≡ segmentFrom head p a
-  segment-is e₁ e₂ e₃ e₄ e₅ = rw (e₁, e₂, e₃, e₄, e₅, part-rest a (paramsAt p))
+pub complete-put : (w : Heard) (m : Parts) {r : Report} {report : List ℕ} (slot total at : ℕ) (area : List ℕ) → at ≡ slot → r ≡ complete (w .frame) (m .apdu) slot total
+    → report ≡ reportOctets (byTags (itemsOf (take (16384 * at + total - 16384 * at) (drop (16384 * at) area))) r)
+    → report ≡ reportOctets (stepReport w m (Complete slot total) area)
+complete-put w m slot total at area e d q = q ∙ rw (e, d, part-from area (16384 * slot) total)

@@ -8,8 +8,6 @@ use mathlib.Core.Option.{some}
 use lib.Dec.{eqb}
 use lib.ListN.{length}
 use borrow.Author.Tests.{eq-eqb}
-use Rattle.apdu.specs.Fields.{segmentOf}
-use Rattle.apdu.specs.declared.Pdu.{Pdu}
 use Rattle.runs.specs.Run.{Event, Run, wire, ended, walk}
 use Rattle.runs.specs.Run.Order.{trunk}
 use Rattle.runs.specs.Offered.{Offered}
@@ -26,13 +24,16 @@ use Rattle.rebuild.proofs.Page.{key-laws, fair, four, page-others}
 use Rattle.recordings.specs.Frames.{rules, history, Completes}
 use Rattle.recordings.proofs.Demand.{whole, offerable}
 use Rattle.recordings.proofs.Deeds as Deeds
-use Rattle.collector.specs.Report.{refusal}
+use Rattle.reports.specs.Kinds.{refusal}
+use Rattle.reports.specs.Layout.{reportOctets}
 use Rattle.collector.specs.Frame.{segmentFrom, bacnet}
 use Rattle.collector.specs.Frame.Content.{message}
-use Rattle.collector.specs.Acting.{segmentActs, acting}
+use Rattle.collector.specs.Acting.{acting}
 use Rattle.collector.specs.Calls.{slotCount, box, slotsOf}
 use Rattle.collector.specs.Offering.{Passes, End, Called}
 use Rattle.collector.specs.declared.Collector.{Collector}
+use Rattle.collector.specs.declared.heard.Heard.{Heard}
+use Rattle.collector.specs.declared.heard.Parts.{Parts}
 use Rattle.collector.proofs.Actions.{acts-segment}
 use Rattle.collector.proofs.Alike.{offered-to, called-by}
 
@@ -62,13 +63,12 @@ module _ (c : Collector) (area : List ℕ) (P : Passes c) (z : length area ≡ 6
       Deeds.message keys key-laws bacnet (readFrom (c .receiver) (wire all)) (length (heldOf (c .receiver))) (slotsOf c) area (fair (c .slots) area (P .slots) z) front e o g here is k i n
 
   -- a repeated or late segment changes nothing: 52
-  pub late : (head : List ℕ) (p : Pdu) (a : List ℕ) (i : ℕ) → segmentOf p .seg ≡ true → slotOf keys (segmentFrom head p a .key) (slotsOf c) ≡ some i
-      → eqb (segmentOf p .number) 0 ≡ false → eqb (segmentOf p .number) (slotAt keys (slotsOf c) i .next) ≡ false
-      → acting head (message p a) (slotsOf c) area ≡ (refusal head 52, slotsOf c, area)
-  unfolding segmentActs
-  late head p a i s k n m =
-      acts-segment head p a (slotsOf c) area s
-      ∙ rw (repeated keys (segmentFrom head p a) (boxed (slotsOf c) area) i k n m)
+  pub late : (w : Heard) (m : Parts) (a : List ℕ) (i : ℕ) → m .segment .seg ≡ true → slotOf keys (segmentFrom w m a .key) (slotsOf c) ≡ some i
+      → eqb (m .segment .number) 0 ≡ false → eqb (m .segment .number) (slotAt keys (slotsOf c) i .next) ≡ false
+      → acting w (message m a) (slotsOf c) area ≡ (reportOctets (refusal (w .frame) 52), slotsOf c, area)
+  late w m a i s k n d =
+      acts-segment w m a (slotsOf c) area s
+      ∙ rw (repeated keys (segmentFrom w m a) (boxed (slotsOf c) area) i k n d)
 
   -- two keys never share octets: what two open slots hold lies apart
   pub apart : (i j : ℕ) → i < 4 → j < 4 → (slotAt keys (slotsOf c) i .key ≡ slotAt keys (slotsOf c) j .key → ⊥)

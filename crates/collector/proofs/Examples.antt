@@ -11,7 +11,7 @@ use Rattle.trunk.specs.Reading.{readingOf, readFrom}
 use Rattle.trunk.specs.Demand.{reading}
 use Rattle.rebuild.specs.View.{keys}
 use Rattle.recordings.specs.Frames.{rules}
-use Rattle.collector.specs.Report.{reportOctets}
+use Rattle.reports.specs.Layout.{reportOctets}
 use Rattle.collector.specs.Frame.{contentOf, bacnet}
 use Rattle.collector.specs.Calls.{freshCollector, slotsOf}
 

@@ -1,4 +1,3 @@
-pub mod Sixteen
 pub mod Content
 pub mod Actions
 pub mod Answers

@@ -23,8 +23,7 @@ use Rattle.rebuild.specs.declared.Key.{Key}
 use Rattle.rebuild.proofs.Page.{key-laws, fresh-passes}
 use Rattle.recordings.specs.Frames.{rules}
 use Rattle.recordings.proofs.Demand as Recordings
-use Rattle.collector.specs.Report.{damaged}
-use Rattle.collector.specs.Frame.{bacnet}
+use Rattle.collector.specs.Frame.{bacnet, damageOctets}
 use Rattle.collector.specs.Calls.{slotCount, passing, sized, box, freshCollector, Answered}
 use Rattle.collector.specs.Offering.{Passes, End, Called}
 use Rattle.collector.specs.declared.Collector.{Collector}
@@ -33,7 +32,7 @@ use Rattle.collector.proofs.Alike.{Boxed, offered-to}
 pub fresh : Passes freshCollector
 fresh = record { receiver = record { left = refl; head = length-replicate {A = ℕ} 5 0; store = length-replicate {A = ℕ} 501 0 }; slots = fresh-passes }
 
-pub keeps : Keeps (rules keys bacnet) damaged passing sized
+pub keeps : Keeps (rules keys bacnet) damageOctets passing sized
 keeps = Recordings.keeps keys key-laws bacnet slotCount (λ n. refl) (λ o g e. refl)
 
 -- the receiver

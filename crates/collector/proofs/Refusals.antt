@@ -8,6 +8,7 @@ use Rattle.octets.specs.Choice.{by-test}
 use Rattle.frames.specs.Step.{soundOf, feedOf}
 use Rattle.frames.proofs.Calls.{feed-none}
 use Rattle.trunk.specs.Demand.{unmoved}
+use Rattle.reports.specs.Layout.{reportSize}
 use Rattle.collector.specs.Calls.{passing, sized, slotsOf, feedRefusal, feeding}
 use Rattle.collector.specs.declared.Collector.{Collector}
 
@@ -15,7 +16,7 @@ module _ (c : Collector) (report area : List ℕ) where
   pub refused-keeps : (piece : List ℕ) → (feedRefusal c report area ≡ 0 → ⊥) → feeding c report area piece ≡ unmoved (c .receiver) (slotsOf c) area
   unfolding feedRefusal feeding feedOf
   refused-keeps piece n =
-      by-test (eqb (length report) 16)
+      by-test (eqb (length report) reportSize)
       (λ k. by-test (sized area)
       (λ z. by-test (passing (slotsOf c))
       (λ p. by-test (soundOf (c .receiver)) (λ s. absurd (n (rw (k, z, s, p)))) (λ s. rw (k, z, p, s)))
@@ -27,7 +28,7 @@ module _ (c : Collector) (report area : List ℕ) where
   pub empty-keeps : feeding c report area [] ≡ unmoved (c .receiver) (slotsOf c) area
   unfolding feeding
   empty-keeps =
-      by-test (eqb (length report) 16)
+      by-test (eqb (length report) reportSize)
       (λ k. by-test (sized area)
       (λ z. by-test (passing (slotsOf c)) (λ p. rw (k, z, p, feed-none (c .receiver))) (λ p. rw (k, z, p)))
       (λ z. rw (k, z)))

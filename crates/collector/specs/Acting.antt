@@ -3,43 +3,27 @@ use Prim.Native.Nat.{ℕ, _+_, _*_, _≤_}
 use mathlib.Core.Path.{_≡_}
 use mathlib.Core.Bool.{Bool, true, false}
 use mathlib.Core.List.{List}
-use mathlib.Core.Option.{Option, none, some}
 use lib.ListN.{length}
-use Rattle.octets.specs.Reading.{oct}
-use Rattle.apdu.specs.Fields.{invokeOf, choiceOf}
-use Rattle.apdu.specs.declared.Pdu.{Pdu}
-use Rattle.items.specs.Reading.{itemsOf}
 use Rattle.messages.specs.Slots as Messages
-use Rattle.messages.specs.Slots.{room, part}
-use Rattle.messages.specs.Rows as Rows
+use Rattle.messages.specs.Slots.{room}
 use Rattle.messages.specs.Sound.{passes}
 use Rattle.rebuild.specs.View.{keys, view}
 use Rattle.rebuild.specs.declared.Key.{Key}
 use Rattle.rebuild.specs.declared.Slots.{Slots}
 use Rattle.rebuild.specs.declared.Step.{Step}
 use Rattle.rebuild.specs.declared.Step.the-variants.{Refused, Held, Complete}
-use Rattle.collector.specs.Report.{reportSize, segmentTaken, complete, refusal}
-use Rattle.collector.specs.Frame.{Content, segmentFrom, segmentIn, byTags, plainReport, segmentReport, answeredReport}
+use Rattle.recordings.specs.Frames.{actOn}
+use Rattle.reports.specs.Layout.{reportSize}
+use Rattle.collector.specs.Frame.{Content, segmentIn, contents}
+use Rattle.collector.specs.declared.heard.Heard.{Heard}
+use Rattle.collector.specs.declared.heard.Parts.{Parts}
 
 -- the report, the slots and the area after it
 abbrev pub Acts : Type 0
 Acts = List ℕ × List (Messages.Slot Key) × List ℕ
 
--- a segment of the PDU p with the octets a
-unfoldable pub segmentActs : List ℕ → Pdu → List ℕ → List (Messages.Slot Key) → List ℕ → Acts
-segmentActs head p a s area =
-    let d = Rows.rebuild keys (segmentFrom head p a) (Messages.boxed s area) in
-    (segmentReport head p a (d .answer) (d .box .area), d .box .slots, d .box .area)
-
--- with the segment that the content carries, if it carries one
-abbrev pub actingBy : List ℕ → Content → Option (Messages.Segment Key) → List (Messages.Slot Key) → List ℕ → Acts
-actingBy head x none s area = (plainReport head x, s, area)
-actingBy head x (some g) s area =
-    let d = Rows.rebuild keys g (Messages.boxed s area) in
-    (answeredReport head x (d .answer) (d .box .area), d .box .slots, d .box .area)
-
-unfoldable pub acting : List ℕ → Content → List (Messages.Slot Key) → List ℕ → Acts
-acting head x s area = actingBy head x (segmentIn head x) s area
+unfoldable pub acting : Heard → Content → List (Messages.Slot Key) → List ℕ → Acts
+acting w x s area = actOn keys (contents w) (segmentIn w x) x s area
 
 -- what a function leaves: the slots t, the report, the area
 pub record Acted (w : Acts) (t : Slots) (report area : List ℕ) : Type 0 where
@@ -57,11 +41,10 @@ pub record Lent (report : List ℕ) (t : Slots) (area : List ℕ) : Type 0 where
   pub fair : passes keys 4 (view t) ≡ true
   pub sized : length area ≡ 65536
 
--- the report of a segment by the answer of the call
-abbrev pub stepReport : List ℕ → Pdu → List ℕ → Step → List ℕ → List ℕ
-stepReport head p a (Refused n) area = refusal head n
-stepReport head p a (Held i total) area = segmentTaken head (oct a 0) (invokeOf p) i total (choiceOf p)
-stepReport head p a (Complete i total) area = byTags head (itemsOf (part (room * i) total area)) (complete head (oct a 0) (invokeOf p) i total (choiceOf p))
+-- an APDU that is a segment, its parameters within its octets
+pub record Segmented (m : Parts) (a : List ℕ) : Type 0 where
+  pub seg : m .segment .seg ≡ true
+  pub within : m .params ≤ length a
 
 -- a completed message lies in the area
 abbrev pub Named : Step → List ℕ → Type 0

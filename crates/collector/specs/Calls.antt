@@ -17,8 +17,8 @@ use Rattle.messages.specs.Sound.{passes, sizedFor}
 use Rattle.rebuild.specs.View.{keys, view, fresh}
 use Rattle.rebuild.specs.declared.Key.{Key}
 use Rattle.recordings.specs.Frames.{rules}
-use Rattle.collector.specs.Report.{reportSize, damaged}
-use Rattle.collector.specs.Frame.{bacnet}
+use Rattle.reports.specs.Layout.{reportSize}
+use Rattle.collector.specs.Frame.{bacnet, damageOctets}
 use Rattle.collector.specs.declared.Collector.{Collector}
 use Rattle.collector.specs.declared.Fed.{Fed}
 use Rattle.collector.specs.declared.Fell.{Fell}
@@ -36,7 +36,7 @@ sized a = sizedFor slotCount a
 
 -- the box that demand 3 speaks of: a refused call eats nothing and changes nothing
 abbrev pub box : Box Receiver (List (Messages.Slot Key)) (List ℕ) (List ℕ)
-box = boxOf (rules keys bacnet) damaged passing sized
+box = boxOf (rules keys bacnet) damageOctets passing sized
 
 -- a state that 59 passes
 abbrev pub sound : Receiver → List (Messages.Slot Key) → Bool

@@ -9,8 +9,6 @@ use Rattle.octets.specs.Reading.{oct, refuse}
 use Rattle.npdu.specs.Reading.{readNpdu}
 use Rattle.npdu.specs.declared.Reading.{Reading}
 use Rattle.apdu.specs.Reading.{readApdu}
-use Rattle.apdu.specs.Fields.{kindOf, invokeOf, choiceOf, segmentOf, paramsAt}
-use Rattle.apdu.specs.declared.Pdu.{Pdu}
 use Rattle.apdu.specs.declared.Answer.{Answer}
 use Rattle.apdu.specs.declared.Answer.the-variants.{Good, Refused}
 use Rattle.items.specs.Reading.{Out, itemsOf}
@@ -20,21 +18,29 @@ use Rattle.trunk.specs.Reading.Out.{good as whole, damage}
 use Rattle.messages.specs.Slots as Messages
 use Rattle.messages.specs.Slots.{room, part}
 use Rattle.messages.specs.Rows as Rows
-use Rattle.messages.specs.Rows.Answer.{refused, taken, completed}
+use Rattle.rebuild.specs.Calls.{stepOf}
 use Rattle.rebuild.specs.declared.Key.{Key}
-use Rattle.recordings.specs.Frames.{Frames, rules}
-use Rattle.collector.specs.Report.{otherFrame, damaged, unsegmented, segmentTaken, complete, refusal, networkMessage}
+use Rattle.rebuild.specs.declared.Step as Step
+use Rattle.rebuild.specs.declared.Step.the-variants.{Held, Complete}
+use Rattle.recordings.specs.Frames.{Frames}
+use Rattle.reports.specs.Layout.{reportOctets}
+use Rattle.reports.specs.Kinds.{otherFrame, damaged, unsegmented, segmentTaken, complete, refusal, networkMessage}
+use Rattle.reports.specs.declared.Report.{Report}
+use Rattle.collector.specs.Heard.{heardOf, partsOf}
+use Rattle.collector.specs.declared.heard.Heard.{Heard}
+use Rattle.collector.specs.declared.heard.Parts.{Parts}
 
 -- what a frame's data are
 pub data Content : Type 0 where
   other : ℕ → Content  -- of a type other than 5 and 6, and the octets of its data
-  refuses : ℕ → Content  -- a network header or an APDU header that is refused: 10 to 14, 20 to 24
+  refuses : ℕ → Content  -- a network header that is refused: 10 to 14
   network : ℕ → Content  -- a network layer message, and the octets after its type (and vendor)
-  message : Pdu → List ℕ → Content  -- an APDU, and all its octets
+  refusesBehind : ℕ → Content  -- an APDU header that is refused behind a good network header: 20 to 24
+  message : Parts → List ℕ → Content  -- an APDU taken apart, and all its octets
 
 abbrev pub apduContent : List ℕ → Answer → Content
-apduContent a (Good p) = message p a
-apduContent a (Refused n) = refuses n
+apduContent a (Good p) = message (partsOf p (oct a 0)) a
+apduContent a (Refused n) = refusesBehind n
 
 -- what follows the network header
 unfoldable pub npduContent : List ℕ → Reading → Content
@@ -43,66 +49,76 @@ npduContent payload n =
     (given (n .head .message) (network (length payload - n .next))
     (apduContent (drop (n .next) payload) (readApdu (drop (n .next) payload))))
 
-unfoldable pub contentOf : List ℕ → List ℕ → Content
-contentOf head payload =
-    pick (eqb (oct head 0) 5) (npduContent payload (readNpdu payload))
-    (pick (eqb (oct head 0) 6) (npduContent payload (readNpdu payload)) (other (length payload)))
+unfoldable pub contentOf : Heard → List ℕ → Content
+contentOf w payload =
+    pick (eqb (w .frame .kind) 5) (npduContent payload (readNpdu payload))
+    (pick (eqb (w .frame .kind) 6) (npduContent payload (readNpdu payload)) (other (length payload)))
 
 -- the parameters of an APDU
-abbrev pub paramsOf : Pdu → List ℕ → List ℕ
-paramsOf p a = drop (paramsAt p) a
+abbrev pub paramsOf : Parts → List ℕ → List ℕ
+paramsOf m a = drop (m .params) a
 
 -- ---- the segment that a frame carries. "Key: MS/TP source, MS/TP destination, PDU type, invoke ID."
-abbrev pub keyOf : List ℕ → Pdu → Key
-keyOf head p = record { source = oct head 2; destination = oct head 1; kind = kindOf p; invoke = invokeOf p }
+abbrev pub keyOf : Heard → Parts → Key
+keyOf w m = record { source = w .frame .source; destination = w .frame .destination; kind = m .kind; invoke = m .apdu .invoke }
 
-abbrev pub segmentFrom : List ℕ → Pdu → List ℕ → Messages.Segment Key
-segmentFrom head p a =
-    record { key = keyOf head p; number = segmentOf p .number; mor = segmentOf p .mor; choice = choiceOf p; octets = paramsOf p a }
+abbrev pub segmentFrom : Heard → Parts → List ℕ → Messages.Segment Key
+segmentFrom w m a =
+    record { key = keyOf w m; number = m .segment .number; mor = m .segment .mor; choice = m .apdu .choice; octets = paramsOf m a }
 
-abbrev pub segmentIn : List ℕ → Content → Option (Messages.Segment Key)
-segmentIn head (other n) = none
-segmentIn head (refuses n) = none
-segmentIn head (network n) = none
-segmentIn head (message p a) = given (segmentOf p .seg) (some (segmentFrom head p a)) none
+abbrev pub segmentIn : Heard → Content → Option (Messages.Segment Key)
+segmentIn w (other n) = none
+segmentIn w (refuses n) = none
+segmentIn w (network n) = none
+segmentIn w (refusesBehind n) = none
+segmentIn w (message m a) = given (m .segment .seg) (some (segmentFrom w m a)) none
 
 -- ---- the reports
 -- "its tags good", or kind 6 with the tag number
-abbrev pub byTags : List ℕ → Out → List ℕ → List ℕ
-byTags head (good rs end) fine = fine
-byTags head (bad x) fine = refusal head x
+abbrev pub byTags : Out → Report → Report
+byTags (good rs end) fine = fine
+byTags (bad x) fine = refusal (fine .frame) x
 
 -- a frame that carries no segment; PDUs without parameters have no tags to judge
-abbrev pub plainReport : List ℕ → Content → List ℕ
-plainReport head (other n) = otherFrame head n
-plainReport head (refuses n) = refusal head n
-plainReport head (network n) = networkMessage head n
-plainReport head (message p a) = byTags head (itemsOf (paramsOf p a)) (unsegmented head (oct a 0) (invokeOf p) (length a) (choiceOf p))
+abbrev pub plainReport : Heard → Content → Report
+plainReport w (other n) = otherFrame (w .frame) n
+plainReport w (refuses n) = refusal (w .frame) n
+plainReport w (network n) = networkMessage (w .frame) n
+plainReport w (refusesBehind n) = refusal (w .frame) n
+plainReport w (message m a) = byTags (itemsOf (paramsOf m a)) (unsegmented (w .frame) (m .apdu) (length a))
 
 -- a segment, by its answer and the area after it: "A completed message with bad tags is kind 6 with its tag number"
-abbrev pub segmentReport : List ℕ → Pdu → List ℕ → Rows.Answer → List ℕ → List ℕ
-segmentReport head p a (refused n) area = refusal head n
-segmentReport head p a (taken i total) area = segmentTaken head (oct a 0) (invokeOf p) i total (choiceOf p)
-segmentReport head p a (completed i total) area = byTags head (itemsOf (part (room * i) total area)) (complete head (oct a 0) (invokeOf p) i total (choiceOf p))
+abbrev pub stepReport : Heard → Parts → Step.Step → List ℕ → Report
+stepReport w m (Step.the-variants.Refused n) area = refusal (w .frame) n
+stepReport w m (Held i total) area = segmentTaken (w .frame) (m .apdu) i total
+stepReport w m (Complete i total) area = byTags (itemsOf (part (room * i) total area)) (complete (w .frame) (m .apdu) i total)
 
-abbrev pub answeredReport : List ℕ → Content → Rows.Answer → List ℕ → List ℕ
-answeredReport head (message p a) w area = segmentReport head p a w area
-answeredReport head (other n) w area = refusal head 0
-answeredReport head (refuses n) w area = refusal head 0
-answeredReport head (network n) w area = refusal head 0
+abbrev pub answeredReport : Heard → Content → Rows.Answer → List ℕ → Report
+answeredReport w (message m a) x area = stepReport w m (stepOf x) area
+answeredReport w (other n) x area = refusal (w .frame) 0
+answeredReport w (refuses n) x area = refusal (w .frame) 0
+answeredReport w (network n) x area = refusal (w .frame) 0
+answeredReport w (refusesBehind n) x area = refusal (w .frame) 0
 
--- ---- all of it as the rules that demand 3 is stated over
+-- ---- all of it as the rules that demand 3 is stated over: of a content, and of what ends on the trunk
+abbrev pub contents : Heard → Frames Content Key (List ℕ)
+contents w = record { segmentOf = segmentIn w; plain = λ x. reportOctets (plainReport w x); answered = λ x y area. reportOctets (answeredReport w x y area) }
+
 abbrev pub segmentAt : Trunk.Out → Option (Messages.Segment Key)
-segmentAt (whole head payload) = segmentIn head (contentOf head payload)
+segmentAt (whole head payload) = let w = heardOf head in segmentIn w (contentOf w payload)
 segmentAt (damage n) = none
 
 abbrev pub plainAt : Trunk.Out → List ℕ
-plainAt (whole head payload) = plainReport head (contentOf head payload)
-plainAt (damage n) = damaged n
+plainAt (whole head payload) = let w = heardOf head in reportOctets (plainReport w (contentOf w payload))
+plainAt (damage n) = reportOctets (damaged n)
 
 abbrev pub answeredAt : Trunk.Out → Rows.Answer → List ℕ → List ℕ
-answeredAt (whole head payload) w area = answeredReport head (contentOf head payload) w area
-answeredAt (damage n) w area = damaged n
+answeredAt (whole head payload) x area = let w = heardOf head in reportOctets (answeredReport w (contentOf w payload) x area)
+answeredAt (damage n) x area = reportOctets (damaged n)
 
 abbrev pub bacnet : Frames Trunk.Out Key (List ℕ)
 bacnet = record { segmentOf = segmentAt; plain = plainAt; answered = answeredAt }
+
+-- the report of damage
+abbrev pub damageOctets : ℕ → List ℕ
+damageOctets n = reportOctets (damaged n)

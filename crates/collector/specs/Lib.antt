@@ -1,4 +1,4 @@
-pub mod Report
+pub mod Heard
 pub mod Frame
 pub mod Acting
 pub mod Calls

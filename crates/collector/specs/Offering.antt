@@ -11,7 +11,7 @@ use Rattle.frames.specs.declared.Receiver.{Receiver}
 use Rattle.trunk.specs.Demand.{Sound}
 use Rattle.messages.specs.Slots as Messages
 use Rattle.rebuild.specs.declared.Key.{Key}
-use Rattle.collector.specs.Report.{reportSize}
+use Rattle.reports.specs.Layout.{reportSize}
 use Rattle.collector.specs.Calls.{passing, slotsOf, Feeds, Stills, Forgets}
 use Rattle.collector.specs.declared.Collector.{Collector}
 use Rattle.collector.specs.declared.Fed.{Fed}

@@ -1,6 +1,5 @@
 // The same calls over a lent frame store: link and slots go in and come back, the store stays where it is.
 use crate::frame;
-use crate::report;
 use frames::Link;
 use frames::Outcome;
 use rebuild::Slots;
@@ -57,7 +56,7 @@ pub fn feed(
     requires { ⌜ length (now store) ≡ 501 ⌝ }
     ensures { λ r. ⌜ Eats link slots (now (store .entry)) (now (report .entry)) (now (area .entry)) (now (piece .entry)) r (now (store .exit)) (now (report .exit)) (now (area .exit)) ⌝ }
 {
-    if report.len() != 16 {
+    if report.len() != reports::SIZE {
         return unfed(link, slots, 60);
     }
     if area.len() != 65536 {
@@ -82,7 +81,7 @@ pub fn feed(
             slots,
         },
         Outcome::Damage(n) => {
-            report::put_damage(report, n);
+            frame::put_damage(report, n);
             Ate {
                 refused,
                 eaten,
@@ -124,7 +123,7 @@ fn quiet(link: Link, number: u8) -> Hushed
 pub fn silence(link: Link, slots: Slots, report: &mut [u8]) -> Hushed
     ensures { λ r. ⌜ Hushes link slots (now (report .entry)) r (now (report .exit)) ⌝ }
 {
-    if report.len() != 16 {
+    if report.len() != reports::SIZE {
         return quiet(link, 60);
     }
     let fair = rebuild::sound(slots);
@@ -137,7 +136,7 @@ pub fn silence(link: Link, slots: Slots, report: &mut [u8]) -> Hushed
     let ended = f.outcome;
     match ended {
         Outcome::Damage(n) => {
-            report::put_damage(report, n);
+            frame::put_damage(report, n);
             Hushed {
                 refused,
                 reported: true,

@@ -1,7 +1,7 @@
 // The whole box: receiver and four slots by value; feed, silence, forget; reports of 16 octets.
 mod frame;
+mod heard;
 pub mod lent;
-mod report;
 
 use frames::Receiver;
 use rebuild::Slots;

@@ -1,36 +1,29 @@
 -- Demand 1: what the collector's calls change, refused or not.
-use Prim.Native.Nat.{ℕ, _*_}
-use native.Mathlib.Omega.{arith}
+use Prim.Native.Nat.{ℕ}
 use mathlib.Core.Path.{_≡_, refl, sym, ap, _∙_}
 use mathlib.Core.Bool.{false}
 use mathlib.Core.List.{List, []}
 use mathlib.Core.Option.{Option, none, some}
 use lib.Dec.{eqb}
-use lib.ListN.{length, length-append}
+use lib.ListN.{length}
 use borrow.Author.Tests.{eqb-false}
 use Rattle.octets.specs.Choice.{pick, by-test}
-use Rattle.octets.specs.Numbers.{length-digits}
-use Rattle.octets.specs.Reading.{oct}
-use Rattle.apdu.specs.Fields.{invokeOf, choiceOf}
-use Rattle.items.specs.Reading.{Out, itemsOf}
-use Rattle.items.specs.Reading.Out.{good, bad}
 use Rattle.frames.specs.Step.{soundOf, feedOf, silenceOf}
 use Rattle.frames.specs.declared.Receiver.{Receiver}
 use Rattle.runs.specs.Offered.{answer, caught}
 use Rattle.trunk.specs.Reading as Trunk
 use Rattle.trunk.specs.Reading.Out.{good as whole, damage}
 use Rattle.trunk.specs.Demand.{outOf, unmoved}
-use Rattle.messages.specs.Slots.{Segment, boxed, room, part, slotAt}
+use Rattle.messages.specs.Slots.{Segment, boxed, slotAt}
 use Rattle.messages.specs.Rows as Rows
 use Rattle.messages.specs.Rows.{rebuild, forgetNumber}
-use Rattle.messages.specs.Rows.Answer.{refused, taken, completed}
 use Rattle.rebuild.specs.View.{keys}
 use Rattle.rebuild.specs.declared.Key.{Key}
 use Rattle.rebuild.proofs.Seen.{view-one}
 use Rattle.recordings.specs.Frames.{actOn, rules}
-use Rattle.collector.specs.Report.{reportOctets}
-use Rattle.collector.specs.Frame.{Content, contentOf, paramsOf, bacnet, byTags, plainReport, answeredReport, segmentAt, plainAt, answeredAt}
-use Rattle.collector.specs.Frame.Content.{other, refuses, network, message}
+use Rattle.reports.specs.Layout.{reportSize}
+use Rattle.reports.proofs.Octets.{report-size}
+use Rattle.collector.specs.Frame.{bacnet, segmentAt, plainAt, answeredAt}
 use Rattle.collector.specs.Calls.{box, sound, passing, sized, slotsOf, written, saidSo, Answered, feedRefusal, feeding, Feeds, silenceRefusal, stilling, Stills}
 use Rattle.collector.specs.declared.Collector.{Collector}
 use Rattle.collector.proofs.Alike.{feeds-one, stills-one}
@@ -50,7 +43,7 @@ feed-refused c piece report area r report′ area′ h n =
 silence-keeps : (c : Collector) (report : List ℕ) → (silenceRefusal c report ≡ 0 → ⊥) → stilling c report [] ≡ unmoved (c .receiver) (slotsOf c) []
 unfolding silenceRefusal stilling silenceOf
 silence-keeps c report n =
-    by-test (eqb (length report) 16)
+    by-test (eqb (length report) reportSize)
     (λ k. by-test (passing (slotsOf c))
     (λ p. by-test (soundOf (c .receiver)) (λ s. absurd (n (rw (k, s, p)))) (λ s. rw (k, p, s)))
     (λ p. rw (k, p)))
@@ -77,39 +70,17 @@ forget-refused c s r h n =
     let v = h .receiver in
     λ i. record { receiver = v i; slots = k i }
 
--- ---- a report is sixteen octets
-abbrev Sixteen : List ℕ → Type 0
-Sixteen o = length o ≡ 16
+-- ---- a report has its size
+abbrev Whole : List ℕ → Type 0
+Whole o = length o ≡ reportSize
 
-report-sixteen : (kind number : ℕ) (head : List ℕ) (first invoke slot len choice : ℕ) → Sixteen (reportOctets kind number head first invoke slot len choice)
-unfolding reportOctets
-report-sixteen kind number head first invoke slot len choice = let d = length-digits 4 len in simp length-append (omega arith)
+plainly : (o : Trunk.Out) → Whole (plainAt o)
+plainly (whole head payload) = report-size _
+plainly (damage n) = report-size _
 
-tags-sixteen : (o : Out) (kind : ℕ) (head : List ℕ) (first invoke slot len choice : ℕ) → Sixteen (byTags head o (reportOctets kind 0 head first invoke slot len choice))
-tags-sixteen (good rs end) kind head first invoke slot len choice = report-sixteen kind 0 head first invoke slot len choice
-tags-sixteen (bad x) kind head first invoke slot len choice = report-sixteen 6 x head 0 0 0 0 0
-
-plain-sixteen : (head : List ℕ) (x : Content) → Sixteen (plainReport head x)
-plain-sixteen head (other n) = report-sixteen _ _ _ _ _ _ _ _
-plain-sixteen head (refuses n) = report-sixteen _ _ _ _ _ _ _ _
-plain-sixteen head (network n) = report-sixteen _ _ _ _ _ _ _ _
-plain-sixteen head (message p a) = tags-sixteen (itemsOf (paramsOf p a)) 3 head (oct a 0) (invokeOf p) 0 (length a) (choiceOf p)
-
-answered-sixteen : (head : List ℕ) (x : Content) (w : Rows.Answer) (area : List ℕ) → Sixteen (answeredReport head x w area)
-answered-sixteen head (message p a) (refused n) area = report-sixteen _ _ _ _ _ _ _ _
-answered-sixteen head (message p a) (taken i total) area = report-sixteen _ _ _ _ _ _ _ _
-answered-sixteen head (message p a) (completed i total) area = tags-sixteen (itemsOf (part (room * i) total area)) 5 head (oct a 0) (invokeOf p) i total (choiceOf p)
-answered-sixteen head (other n) w area = report-sixteen _ _ _ _ _ _ _ _
-answered-sixteen head (refuses n) w area = report-sixteen _ _ _ _ _ _ _ _
-answered-sixteen head (network n) w area = report-sixteen _ _ _ _ _ _ _ _
-
-plainly : (o : Trunk.Out) → Sixteen (plainAt o)
-plainly (whole head payload) = plain-sixteen head (contentOf head payload)
-plainly (damage n) = report-sixteen _ _ _ _ _ _ _ _
-
-answering : (o : Trunk.Out) (w : Rows.Answer) (area : List ℕ) → Sixteen (answeredAt o w area)
-answering (whole head payload) w area = answered-sixteen head (contentOf head payload) w area
-answering (damage n) w area = report-sixteen _ _ _ _ _ _ _ _
+answering : (o : Trunk.Out) (w : Rows.Answer) (area : List ℕ) → Whole (answeredAt o w area)
+answering (whole head payload) w area = report-size _
+answering (damage n) w area = report-size _
 
 -- ---- a piece that is not refused
 no : {X : Type 0} (n : ℕ) → eqb n 0 ≡ false → n ≡ 0 → X
@@ -121,7 +92,7 @@ module _ (c : Collector) (report area : List ℕ) where
       feeding c report area piece ≡ caught (rules keys bacnet) (outOf (f .outcome) (f .receiver)) (f .eaten) (f .receiver) (slotsOf c) area (answer (f .eaten) none (f .receiver) (slotsOf c) area))
   unfolding feedRefusal feeding
   not-refused piece e =
-      by-test (eqb (length report) 16)
+      by-test (eqb (length report) reportSize)
       (λ k. by-test (sized area)
       (λ z. by-test (passing (slotsOf c)) (λ p. rw (k, z, p)) (λ p.
       let q : pick (sound (c .receiver) (slotsOf c)) 0 59 ≡ 0 = rw (k, z) at e in
@@ -130,7 +101,7 @@ module _ (c : Collector) (report area : List ℕ) where
       (λ k. no 60 refl (rw k at e))
 
   -- by the segment, and by the outcome
-  by-segment : (o : Trunk.Out) (y : Option (Segment Key)) → (let w = actOn keys bacnet y o (slotsOf c) area in Sixteen (w .0) × BySegment c area o y (w .0) (w .1) (w .2))
+  by-segment : (o : Trunk.Out) (y : Option (Segment Key)) → (let w = actOn keys bacnet y o (slotsOf c) area in Whole (w .0) × BySegment c area o y (w .0) (w .1) (w .2))
   by-segment o none = (plainly o, (refl, refl, refl))
   by-segment o (some g) = let d = rebuild keys g (boxed (slotsOf c) area) in (answering o (d .answer) (d .box .area), (refl, refl, refl))
 
@@ -162,7 +133,7 @@ feed-does c piece report area r report′ area′ h z =
 pub silence-does : SilenceDoes
 unfolding silenceRefusal stilling
 silence-does c report r report′ h z =
-    by-test (eqb (length report) 16)
+    by-test (eqb (length report) reportSize)
     (λ k. by-test (passing (slotsOf c))
     (λ p. (rw (k, p) at (h .reported), rw (k, p) at (h .reportAfter), rw (k, p) at (h .receiver), view-one (r .state .slots) (c .slots) (rw (k, p) at (h .slots))))
     (λ p.

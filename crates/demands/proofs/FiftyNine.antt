@@ -22,6 +22,7 @@ use Rattle.messages.proofs.Sound.{good-of}
 use Rattle.rebuild.specs.View.{keys}
 use Rattle.rebuild.specs.declared.Key.{Key}
 use Rattle.rebuild.proofs.Page.{key-laws}
+use Rattle.reports.specs.Layout.{reportSize}
 use Rattle.collector.specs.Calls as Box
 use Rattle.collector.specs.Calls.{passing, slotsOf, feedRefusal, silenceRefusal}
 use Rattle.collector.specs.declared.Collector.{Collector}
@@ -144,17 +145,17 @@ receiver-silence-numbers m = numbers Unit (BrokenReceiver m) true (soundOf m) (�
 pub feed-numbers : FeedNumbers
 unfolding feedRefusal
 feed-numbers c piece report area r report′ area′ four h =
-    let a = eqb (length report) 16 in
+    let a = eqb (length report) reportSize in
     let b = eqb (length area) 65536 in
     let x : ℕ = pick (Box.sound (c .receiver) (slotsOf c)) 0 59 in
     let both-ways : pick a (pick b x 60) 60 ≡ pick (both a b) x 60 = by-test a (λ t. rw t) (λ t. rw t) in
-    numbers ((length report ≡ 16) × (length area ≡ 65536)) (Broken c) (both a b) (Box.sound (c .receiver) (slotsOf c))
+    numbers ((length report ≡ reportSize) × (length area ≡ 65536)) (Broken c) (both a b) (Box.sound (c .receiver) (slotsOf c))
     (λ e. (eqb-true _ _ (both-left a b e), eqb-true _ _ (both-right a b e))) (λ q. rw (eq-eqb _ _ (q .0)) (eq-eqb _ _ (q .1))) (box-denies c four) (h .refused ∙ both-ways)
 
 pub silence-numbers : SilenceNumbers
 unfolding silenceRefusal
 silence-numbers c report r report′ four h =
-    numbers (length report ≡ 16) (Broken c) (eqb (length report) 16) (Box.sound (c .receiver) (slotsOf c)) (λ e. eqb-true _ _ e) (λ q. eq-eqb _ _ q) (box-denies c four) (h .refused)
+    numbers (length report ≡ reportSize) (Broken c) (eqb (length report) reportSize) (Box.sound (c .receiver) (slotsOf c)) (λ e. eqb-true _ _ e) (λ q. eq-eqb _ _ q) (box-denies c four) (h .refused)
 
 -- a slot above 3 is none of four, and not open
 above : (c : Collector) → Four c → (s : ℕ) → 3 < s → slotAt keys (slotsOf c) s .used ≡ false

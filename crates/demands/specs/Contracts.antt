@@ -13,7 +13,7 @@ use Rattle.frames.specs.Step.{freshOf, feedOf, silenceOf}
 use Rattle.frames.specs.declared.Receiver.{Receiver}
 use Rattle.frames.specs.declared.Fed.{Fed as ReceiverFed}
 use Rattle.frames.specs.declared.Fell.{Fell as ReceiverFell}
-use Rattle.npdu.specs.Read.{readNpdu}
+use Rattle.npdu.specs.Reading.{readNpdu}
 use Rattle.npdu.specs.Layout as Network
 use Rattle.npdu.specs.Fault as NetworkFault
 use Rattle.npdu.specs.declared.Npdu.{Npdu}

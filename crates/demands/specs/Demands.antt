@@ -72,8 +72,8 @@ use Rattle.rebuild.specs.declared.Step.the-variants as Took
 use Rattle.rebuild.specs.declared.Taken.{Taken}
 use Rattle.rebuild.specs.declared.Forgot.{Forgot as Freed}
 use Rattle.recordings.specs.Frames.{rules, history, Completes}
-use Rattle.collector.specs.Report.{damaged}
-use Rattle.collector.specs.Frame.{bacnet, segmentAt}
+use Rattle.reports.specs.Layout.{reportSize}
+use Rattle.collector.specs.Frame.{bacnet, segmentAt, damageOctets}
 use Rattle.collector.specs.Calls.{passing, slotsOf, freshCollector, written, saidSo, Feeds, Stills, Forgets}
 use Rattle.collector.specs.Offering.{Passes, End, Called}
 use Rattle.collector.specs.declared.Collector.{Collector}
@@ -194,11 +194,11 @@ ReceiverSilenceNumbers = (m : Receiver) → SixtyThenFiftyNine (silenceOf m .ref
 
 abbrev pub FeedNumbers : Type 0
 FeedNumbers = (c : Collector) (piece report area : List ℕ) (r : Fed) (report′ area′ : List ℕ) → Four c → Feeds c report area piece r report′ area′
-    → SixtyThenFiftyNine (r .refused) ((length report ≡ 16) × (length area ≡ 65536)) (Broken c)
+    → SixtyThenFiftyNine (r .refused) ((length report ≡ reportSize) × (length area ≡ 65536)) (Broken c)
 
 abbrev pub SilenceNumbers : Type 0
 SilenceNumbers = (c : Collector) (report : List ℕ) (r : Fell) (report′ : List ℕ) → Four c → Stills c report r report′
-    → SixtyThenFiftyNine (r .refused) (length report ≡ 16) (Broken c)
+    → SixtyThenFiftyNine (r .refused) (length report ≡ reportSize) (Broken c)
 
 -- "Forgetting frees a slot, answers 0, 59 or 56": 56 for "a slot not open or above 3"
 abbrev pub ForgetNumbers : Type 0
@@ -253,7 +253,7 @@ TakeDoes = (t : Slots) (g : Head) (o area : List ℕ) (r : Taken) (later : List 
 -- a silence that is not refused: damage 4 is reported or nothing; slots stay
 abbrev pub SilenceDoes : Type 0
 SilenceDoes = (c : Collector) (report : List ℕ) (r : Fell) (report′ : List ℕ) → Stills c report r report′ → r .refused ≡ 0
-    → (let x = hurtBy damaged (silenceOf (c .receiver) .outcome) in
+    → (let x = hurtBy damageOctets (silenceOf (c .receiver) .outcome) in
     (r .reported ≡ saidSo x) × (report′ ≡ written x report) × (r .state .receiver ≡ silenceOf (c .receiver) .receiver) × (r .state .slots ≡ c .slots))
 
 -- forgetting, the collector's and rebuild's own, frees that slot and leaves all else

@@ -24,6 +24,7 @@ use Rattle.rebuild.specs.declared.Key.{Key}
 use Rattle.services.specs.declared.Service.{Service}
 use Rattle.services.specs.declared.Service.the-variants.{ReadProperty, ReadPropertyAck, WriteProperty, WhoIs, IAm, Error}
 use Rattle.services.specs.declared.Target.{Target}
+use Rattle.reports.specs.Layout.{reportSize}
 use Rattle.collector.specs.Calls.{slotsOf}
 use Rattle.collector.specs.Frame.{segmentAt, plainAt, answeredAt}
 use Rattle.collector.specs.declared.Collector.{Collector}
@@ -113,7 +114,7 @@ BySegment c area o (some g) report′ slots area′ =
 
 abbrev pub ByOutcome : Collector → List ℕ → List ℕ → Option Out → Bool → List ℕ → List (Slot Key) → List ℕ → Type 0
 ByOutcome c report area none reported report′ slots area′ = (reported ≡ false) × (report′ ≡ report) × (slots ≡ slotsOf c) × (area′ ≡ area)
-ByOutcome c report area (some o) reported report′ slots area′ = (reported ≡ true) × (length report′ ≡ 16) × BySegment c area o (segmentAt o) report′ slots area′
+ByOutcome c report area (some o) reported report′ slots area′ = (reported ≡ true) × (length report′ ≡ reportSize) × BySegment c area o (segmentAt o) report′ slots area′
 
 pub record FeedChanges (c : Collector) (report area : List ℕ) (f : Receiver.Fed) (r : Fed) (report′ area′ : List ℕ) : Type 0 where
   pub eaten : r .eaten ≡ f .eaten

@@ -14,6 +14,7 @@ use Rattle.rebuild.specs.View.{keys}
 use Rattle.rebuild.specs.declared.Slots.{Slots}
 use Rattle.rebuild.proofs.Seen.{view-unview, unview-view}
 use Rattle.recordings.specs.Frames.{rules}
+use Rattle.reports.specs.Layout.{reportSize}
 use Rattle.collector.specs.Calls as Calls
 use Rattle.collector.specs.Calls.{slotsOf, saidSo, feedRefusal, feeding, silenceRefusal, stilling}
 use Rattle.collector.specs.Frame.{bacnet}
@@ -35,14 +36,14 @@ inside-is state c l = ap (λ (x : Loaded). x .state) l
 abbrev fedBy : ℕ → ℕ → Bool → Collector → Fed
 fedBy r eaten b c = record { refused = r; eaten = eaten; reported = b; state = c }
 
-pub feeds-carried : (state report area piece : List ℕ) (c : Collector) → Loads state c → length report ≡ 16 → length area ≡ 65536
+pub feeds-carried : (state report area piece : List ℕ) (c : Collector) → Loads state c → length report ≡ reportSize → length area ≡ 65536
     → {r eaten reported : ℕ} {state′ report′ area′ : List ℕ} → Feeds state report area piece r eaten reported state′ report′ area′
     → (b : Bool) × (later : Collector) × (reported ≡ flag b) × Calls.Feeds c report area piece (fedBy r eaten b later) report′ area′ × Loads state′ later
 unfolding feedLeft feedBar bar
 feeds-carried state report area piece c l k m y =
     let d = feeding c report area piece in
     let i = inside-is state c l in
-    let z : feedBar state report area ≡ 0 = rw (eq-eqb (length report) 16 k, eq-eqb (length area) 65536 m, l) in
+    let z : feedBar state report area ≡ 0 = rw (eq-eqb (length report) reportSize k, eq-eqb (length area) 65536 m, l) in
     let q : feedLeft state report area piece ≡ passed (feedRefusal c report area) d report = rw (z, i) in (
       saidSo (d .said),
       stateOf d,
@@ -62,14 +63,14 @@ feeds-carried state report area piece c l k m y =
 abbrev fellBy : ℕ → Bool → Collector → Fell
 fellBy r b c = record { refused = r; reported = b; state = c }
 
-pub stills-carried : (state report : List ℕ) (c : Collector) → Loads state c → length report ≡ 16
+pub stills-carried : (state report : List ℕ) (c : Collector) → Loads state c → length report ≡ reportSize
     → {r reported : ℕ} {state′ report′ : List ℕ} → Stills state report r reported state′ report′
     → (b : Bool) × (later : Collector) × (reported ≡ flag b) × Calls.Stills c report (fellBy r b later) report′ × Loads state′ later
 unfolding silenceLeft silenceBar bar
 stills-carried state report c l k y =
     let d = stilling c report [] in
     let i = inside-is state c l in
-    let z : silenceBar state report ≡ 0 = rw (eq-eqb (length report) 16 k, l) in
+    let z : silenceBar state report ≡ 0 = rw (eq-eqb (length report) reportSize k, l) in
     let q : silenceLeft state report ≡ passed (silenceRefusal c report) d report = rw (z, i) in (
       saidSo (d .said),
       stateOf d,

@@ -13,6 +13,7 @@ use Rattle.rebuild.specs.View.{unview}
 use Rattle.rebuild.specs.declared.Key.{Key}
 use Rattle.rebuild.specs.declared.Slots.{Slots}
 use Rattle.rebuild.proofs.Seen.{unview-view}
+use Rattle.reports.specs.Layout.{reportSize}
 use Rattle.collector.specs.Calls as Calls
 use Rattle.collector.specs.Calls.{slotsOf, feedRefusal, feeding, silenceRefusal, stilling}
 use Rattle.collector.specs.Lent.{over, fedOver, Eats, fellOver, Hushes, forgotOver, Frees}
@@ -90,18 +91,18 @@ module _ (state report area piece : List ℕ) where
         again = λ z. absurd (h (sym e ∙ z));
       }
 
-  pub feeds-line : (length report ≡ 16 → ⊥) → Feeds state report area piece 60 0 0 state report area
+  pub feeds-line : (length report ≡ reportSize → ⊥) → Feeds state report area piece 60 0 0 state report area
   unfolding feedBar bar
-  feeds-line h = feeds-barred 60 (rw (ne-eqb (length report) 16 h)) (λ z. omega arith)
+  feeds-line h = feeds-barred 60 (rw (ne-eqb (length report) reportSize h)) (λ z. omega arith)
 
-  pub feeds-area : length report ≡ 16 → (length area ≡ 65536 → ⊥) → Feeds state report area piece 60 0 0 state report area
+  pub feeds-area : length report ≡ reportSize → (length area ≡ 65536 → ⊥) → Feeds state report area piece 60 0 0 state report area
   unfolding feedBar bar
-  feeds-area k h = feeds-barred 60 (rw (eq-eqb (length report) 16 k, ne-eqb (length area) 65536 h)) (λ z. omega arith)
+  feeds-area k h = feeds-barred 60 (rw (eq-eqb (length report) reportSize k, ne-eqb (length area) 65536 h)) (λ z. omega arith)
 
-  module _ (k : length report ≡ 16) (m : length area ≡ 65536) (w : Lifted) (e : w ≡ liftOf state) where
+  module _ (k : length report ≡ reportSize) (m : length area ≡ 65536) (w : Lifted) (e : w ≡ liftOf state) where
     sizes : feedBar state report area ≡ w .refused
     unfolding feedBar bar
-    sizes = rw (eq-eqb (length report) 16 k, eq-eqb (length area) 65536 m) (lifted-number state e)
+    sizes = rw (eq-eqb (length report) reportSize k, eq-eqb (length area) 65536 m) (lifted-number state e)
 
     pub feeds-not : (w .refused ≡ 0 → ⊥) → Feeds state report area piece (w .refused) 0 0 state report area
     feeds-not h = feeds-barred (w .refused) sizes h
@@ -134,14 +135,14 @@ module _ (state report : List ℕ) where
       let l : silenceLeft state report ≡ barred n state report [] = rw (e, ne-eqb n 0 h) in
       record { number = number-of l; spoke = reported-of l; stateAfter = state-of l; reportAfter = report-of l; again = λ z. absurd (h (sym e ∙ z)) }
 
-  pub stills-line : (length report ≡ 16 → ⊥) → Stills state report 60 0 state report
+  pub stills-line : (length report ≡ reportSize → ⊥) → Stills state report 60 0 state report
   unfolding silenceBar bar
-  stills-line h = stills-barred 60 (rw (ne-eqb (length report) 16 h)) (λ z. omega arith)
+  stills-line h = stills-barred 60 (rw (ne-eqb (length report) reportSize h)) (λ z. omega arith)
 
-  module _ (k : length report ≡ 16) (w : Lifted) (e : w ≡ liftOf state) where
+  module _ (k : length report ≡ reportSize) (w : Lifted) (e : w ≡ liftOf state) where
     silence-sizes : silenceBar state report ≡ w .refused
     unfolding silenceBar bar
-    silence-sizes = rw (eq-eqb (length report) 16 k) (lifted-number state e)
+    silence-sizes = rw (eq-eqb (length report) reportSize k) (lifted-number state e)
 
     pub stills-not : (w .refused ≡ 0 → ⊥) → Stills state report (w .refused) 0 state report
     stills-not h = stills-barred (w .refused) silence-sizes h

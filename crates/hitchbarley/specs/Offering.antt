@@ -8,7 +8,7 @@ use lib.ListN.{length}
 use Rattle.octets.specs.Choice.{pick}
 use Rattle.runs.specs.Run.{Run, Ends}
 use Rattle.runs.specs.Offered.{Calls, Made, Offer}
-use Rattle.collector.specs.Report.{reportSize}
+use Rattle.reports.specs.Layout.{reportSize}
 use Rattle.hitchbarley.specs.Trunk.{Feeds, Stills, Forgets}
 
 -- the reports with their places, and the state area and the message area at the end

@@ -11,7 +11,7 @@ use Rattle.messages.specs.Slots as Messages
 use Rattle.messages.specs.Rows.{forgetNumber}
 use Rattle.rebuild.specs.View.{keys, unview}
 use Rattle.rebuild.specs.declared.Key.{Key}
-use Rattle.collector.specs.Report.{reportSize}
+use Rattle.reports.specs.Layout.{reportSize}
 use Rattle.collector.specs.Calls.{box, sized, sound, slotsOf, saidSo, written, Answered, feedRefusal, feeding, silenceRefusal, stilling}
 use Rattle.collector.specs.declared.Collector.{Collector}
 use Rattle.records.specs.Flag.{flag}

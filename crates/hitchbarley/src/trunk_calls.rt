@@ -27,7 +27,7 @@ pub extern "C" fn hb_feed(
 {
     *eaten = 0;
     *reported = 0;
-    if report.len() != 16 {
+    if report.len() != reports::SIZE {
         return 60;
     }
     if area.len() != 65536 {
@@ -66,7 +66,7 @@ pub extern "C" fn hb_silence(state: &mut [u8], report: &mut [u8], reported: &mut
     ensures { λ r. ⌜ Stills (now (state .entry)) (now (report .entry)) r (now (reported .exit)) (now (state .exit)) (now (report .exit)) ⌝ }
 {
     *reported = 0;
-    if report.len() != 16 {
+    if report.len() != reports::SIZE {
         return 60;
     }
     let o = state::lift(state);

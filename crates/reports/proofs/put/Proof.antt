@@ -1,18 +1,15 @@
-use Rattle.collector.proofs.Sixteen.{sixteen}
+use Rattle.reports.proofs.Octets.{stored}
 use native.Mathlib.Omega.{arith}
 use denote.Ref.{now}
 use lib.ListN.{length-set}
 use borrow.Author.Needs.{needs}
-use Rattle.collector.proofs.report.put.Statement.{statement}
-use Rattle.collector.proofs.report.put.Tie as tie
+use Rattle.reports.proofs.put.Statement.{statement}
+use Rattle.reports.proofs.put.Tie as tie
 
 pub put-spec : {M : Type 1} → statement M
 put-spec =
     tie.close
     (tie.spec
-    (λ c. search needs)
-    (λ c. search needs)
-    (λ c. search needs)
     (λ c. search needs)
     (λ c. search needs)
     (λ c. search needs)
@@ -34,4 +31,4 @@ put-spec =
     (λ c. simp length-set (omega arith))
     (λ c. simp length-set (omega arith))
     (λ c. simp length-set)
-    (λ c. let a = c .before .args in sixteen (now (a .out)) (a .l .kind) (a .l .number) (a .l .head) (a .l .first) (a .l .invoke) (a .l .slot) (a .l .total) (a .l .choice) (c .before .pre)))
+    (λ c. let at = c .before .before in stored (at .args .r) (now (at .args .out)) (at .pre)))

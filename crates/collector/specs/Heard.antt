@@ -1,0 +1,22 @@
+-- What a good frame hands down: its type, destination and source; and an APDU taken apart.
+use Prim.Native.Nat.{ℕ}
+use mathlib.Core.List.{List}
+use Rattle.octets.specs.Reading.{oct}
+use Rattle.apdu.specs.Fields.{kindOf, invokeOf, choiceOf, segmentOf, paramsAt}
+use Rattle.apdu.specs.declared.Pdu.{Pdu}
+use Rattle.collector.specs.declared.heard.Heard.{Heard}
+use Rattle.collector.specs.declared.heard.Parts.{Parts}
+
+-- the first three octets of the frame's head
+abbrev pub heardOf : List ℕ → Heard
+heardOf head = record { frame = record { kind = oct head 0; destination = oct head 1; source = oct head 2 } }
+
+-- a PDU and its first octet
+unfoldable pub partsOf : Pdu → ℕ → Parts
+partsOf p first =
+    record {
+      kind = kindOf p;
+      apdu = record { first = first; invoke = invokeOf p; choice = choiceOf p };
+      segment = segmentOf p;
+      params = paramsAt p;
+    }

@@ -1,0 +1,4 @@
+pub mod Layout
+pub mod Kinds
+pub mod Valid
+pub mod Reading
