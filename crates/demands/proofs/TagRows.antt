@@ -2,7 +2,7 @@
 use Prim.Native.Nat.{ℕ, zero, suc, _+_, _≤_, _<_}
 use native.Mathlib.Omega.{arith}
 use mathlib.Core.Path.{_≡_, refl, sym, ap, subst, _∙_}
-use mathlib.Core.Logic.{_⊎_, inl, inr, ⊎-elim, _↔_}
+use mathlib.Core.Logic.{inl, inr, ⊎-elim}
 use mathlib.Core.List.{List, [], _∷_, _++_}
 use lib.ListN.{length, length-append}
 use Rattle.octets.specs.Reading.{Octets}
@@ -12,7 +12,7 @@ use Rattle.tags.specs.Types.{least, most}
 use Rattle.tags.specs.Head.{numberAt, twoAt, fourAt, lengthAt, firstRule, firstContent, wholeAt, signBad, signedAt, contentsAt, contextAt, applicationAt, headAt}
 use Rattle.tags.specs.Layout.{Thing, Valid, encode, tagOf, Good, Stands}
 use Rattle.tags.specs.Layout.Thing.{application, boolean, context, opening, closing}
-use Rattle.tags.specs.Rows.{Early, WrongNumber, NotShortest, WrongLength, WrongContents, Given}
+use Rattle.tags.specs.Rows.{Early, Given}
 use Rattle.tags.specs.Rows.Given.{thirty, thirty-one, thirty-two, thirty-three, thirty-four}
 use Rattle.tags.specs.declared.Tag.{Tag}
 use Rattle.tags.specs.declared.Tag.the-variants.{Item, Opening, Closing, Refused}
@@ -21,65 +21,10 @@ use Rattle.tags.proofs.Exact.{encode-length, head-complete, head-sound}
 use Rattle.tags.proofs.Refusals.{TagHas}
 use Rattle.tags.proofs.Rows.{rows-sound, rows-complete, rows-exact, early-short}
 use Rattle.items.proofs.HeadFront.{head-front}
-use Rattle.demands.specs.Words.{One, Between}
 use Rattle.demands.specs.TagRows.{TagRows, Verdict, TagsOne, TagsLeftToRight, TagsUndecided, TagsCut, TypeLengths, TagsWorked}
 
--- ---- each row by its number
-given-30 : (s : List ℕ) (at : ℕ) → Given 30 s at → Early s at
-given-30 s at (thirty e w) = w
-given-30 s at (thirty-one e w) = absurd (omega arith)
-given-30 s at (thirty-two e w) = absurd (omega arith)
-given-30 s at (thirty-three e w) = absurd (omega arith)
-given-30 s at (thirty-four e w) = absurd (omega arith)
-
-given-31 : (s : List ℕ) (at : ℕ) → Given 31 s at → WrongNumber s at
-given-31 s at (thirty e w) = absurd (omega arith)
-given-31 s at (thirty-one e w) = w
-given-31 s at (thirty-two e w) = absurd (omega arith)
-given-31 s at (thirty-three e w) = absurd (omega arith)
-given-31 s at (thirty-four e w) = absurd (omega arith)
-
-given-32 : (s : List ℕ) (at : ℕ) → Given 32 s at → NotShortest s at
-given-32 s at (thirty e w) = absurd (omega arith)
-given-32 s at (thirty-one e w) = absurd (omega arith)
-given-32 s at (thirty-two e w) = w
-given-32 s at (thirty-three e w) = absurd (omega arith)
-given-32 s at (thirty-four e w) = absurd (omega arith)
-
-given-33 : (s : List ℕ) (at : ℕ) → Given 33 s at → WrongLength s at
-given-33 s at (thirty e w) = absurd (omega arith)
-given-33 s at (thirty-one e w) = absurd (omega arith)
-given-33 s at (thirty-two e w) = absurd (omega arith)
-given-33 s at (thirty-three e w) = w
-given-33 s at (thirty-four e w) = absurd (omega arith)
-
-given-34 : (s : List ℕ) (at : ℕ) → Given 34 s at → WrongContents s at
-given-34 s at (thirty e w) = absurd (omega arith)
-given-34 s at (thirty-one e w) = absurd (omega arith)
-given-34 s at (thirty-two e w) = absurd (omega arith)
-given-34 s at (thirty-three e w) = absurd (omega arith)
-given-34 s at (thirty-four e w) = w
-
-given-range : (x : ℕ) (s : List ℕ) (at : ℕ) → Given x s at → Between 30 34 x
-given-range x s at (thirty e w) = (omega arith, omega arith)
-given-range x s at (thirty-one e w) = (omega arith, omega arith)
-given-range x s at (thirty-two e w) = (omega arith, omega arith)
-given-range x s at (thirty-three e w) = (omega arith, omega arith)
-given-range x s at (thirty-four e w) = (omega arith, omega arith)
-
 pub tag-rows : TagRows
-tag-rows s os at =
-    record {
-      early = (λ e. given-30 s at (row 30 .0 e), λ w. row 30 .1 (thirty refl w));
-      number = (λ e. given-31 s at (row 31 .0 e), λ w. row 31 .1 (thirty-one refl w));
-      form = (λ e. given-32 s at (row 32 .0 e), λ w. row 32 .1 (thirty-two refl w));
-      size = (λ e. given-33 s at (row 33 .0 e), λ w. row 33 .1 (thirty-three refl w));
-      contents = (λ e. given-34 s at (row 34 .0 e), λ w. row 34 .1 (thirty-four refl w));
-      only = λ x e. given-range x s at (row x .0 e);
-    }
-  where
-    row : (x : ℕ) → (headAt s at ≡ Refused x) ↔ Given x s at
-    row = rows-exact s os at
+tag-rows s os at x = rows-exact s os at x
 
 -- ---- exactly one
 -- a refusal's number, 0 of what is good
@@ -137,13 +82,21 @@ unfolding zeros
 zeros-octets zero = octets-none
 zeros-octets (suc n) = octets-more 0 (zeros n) (omega arith) (zeros-octets n)
 
+given-30 : (s : List ℕ) (at : ℕ) → Given 30 s at → Early s at
+given-30 s at (thirty e w) = w
+given-30 s at (thirty-one e w) = absurd (omega arith)
+given-30 s at (thirty-two e w) = absurd (omega arith)
+given-30 s at (thirty-three e w) = absurd (omega arith)
+given-30 s at (thirty-four e w) = absurd (omega arith)
+
 -- no item has so many octets: with these behind, 30 is not the answer
 settled : (s : List ℕ) → Octets s → (at n : ℕ) → at + 16391 ≤ n → headAt s at ≡ Refused 30 → headAt (s ++ zeros n) at ≡ headAt s at → ⊥
 settled s os at n long e same =
     let w = given-30 (s ++ zeros n) at (rows-exact (s ++ zeros n) (octets-join s (zeros n) os (zeros-octets n)) at 30 .0 (same ∙ e)) in
     omega (arith, early-short (s ++ zeros n) at w, length-append s (zeros n), zeros-length n)
 
-undecided : (s : List ℕ) → Octets s → (at n : ℕ) → at + 16391 ≤ n → headAt s at ≡ Refused 30 → (more : List ℕ) × Octets more × (headAt (s ++ more) at ≡ headAt s at → ⊥)
+undecided : (s : List ℕ) → Octets s → (at n : ℕ) → at + 16391 ≤ n → headAt s at ≡ Refused 30
+    → (more : List ℕ) × Octets more × (headAt (s ++ more) at ≡ headAt s at → ⊥)
 undecided s os at n long e = (zeros n, zeros-octets n, settled s os at n long e)
 
 pub tags-undecided : TagsUndecided

@@ -9,27 +9,16 @@ use Rattle.octets.specs.Has.{Has}
 use Rattle.tags.specs.Types.{longest, least, most}
 use Rattle.tags.specs.Head.{headAt}
 use Rattle.tags.specs.Layout as Tags
-use Rattle.tags.specs.Rows.{Early, WrongNumber, NotShortest, WrongLength, WrongContents, Given}
+use Rattle.tags.specs.Rows.{Given}
 use Rattle.tags.specs.declared.Tag.{Tag}
 use Rattle.tags.specs.declared.Tag.the-variants.{Item, Opening, Closing, Refused}
-use Rattle.demands.specs.Words.{One, Between}
+use Rattle.demands.specs.Words.{One}
 
--- ---- "Given exactly when": the tag at a place is refused with each number exactly when its row says so, and with no other number
-pub record RowsAt (s : List ℕ) (at : ℕ) : Type 0 where
-  -- 30: "item ends early"
-  pub early : (headAt s at ≡ Refused 30) ↔ Early s at
-  -- 31: "extended number below 15 or 255; application number above 12"
-  pub number : (headAt s at ≡ Refused 31) ↔ WrongNumber s at
-  -- 32: "not shortest; application 6 or 7; boolean 2 to 5"
-  pub form : (headAt s at ≡ Refused 32) ↔ NotShortest s at
-  -- 33: "contents length wrong for its type, or over 16,384"
-  pub size : (headAt s at ≡ Refused 33) ↔ WrongLength s at
-  -- 34: "contents rule broken"
-  pub contents : (headAt s at ≡ Refused 34) ↔ WrongContents s at
-  pub only : (x : ℕ) → headAt s at ≡ Refused x → Between 30 34 x
-
+-- ---- "No. | Given exactly when": the tag at a place is refused with a number exactly when the row of that number says so. The rows of a tag are
+-- 30 "item ends early" (Early), 31 "extended number below 15 or 255; application number above 12" (WrongNumber), 32 "not shortest; application 6 or 7;
+-- boolean 2 to 5" (NotShortest), 33 "contents length wrong for its type, or over 16,384" (WrongLength), 34 "contents rule broken" (WrongContents).
 abbrev pub TagRows : Type 0
-TagRows = (s : List ℕ) → Octets s → (at : ℕ) → RowsAt s at
+TagRows = (s : List ℕ) → Octets s → (at x : ℕ) → (headAt s at ≡ Refused x) ↔ Given x s at
 
 -- ---- any octets at any place are exactly one thing: a tag that keeps the rules (0), or what one row says. The reading is not named here.
 abbrev pub Verdict : List ℕ → ℕ → ℕ → Type 0
