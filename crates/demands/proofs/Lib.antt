@@ -8,3 +8,4 @@ pub mod One
 pub mod Two
 pub mod Three
 pub mod Worked
+pub mod StateOctets
