@@ -13,3 +13,4 @@ pub mod Contracts
 pub mod HeaderRows
 pub mod SegmentRows
 pub mod TagRows
+pub mod StateOctets

@@ -5,3 +5,4 @@ pub mod HeaderRows
 pub mod SegmentRows
 pub mod TagRows
 pub mod NetworkRows
+pub mod StateOctets

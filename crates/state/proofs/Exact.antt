@@ -27,6 +27,9 @@ shaped-loads c f =
     let b = state-back c f in
     rw (eq-eqb (length (stateOctets c)) stateSize (state-size c f), b .1, b .0)
 
+pub saved-loads : (c : Collector) (o : List ℕ) → Shaped c → o ≡ stateOctets c → Loads o c
+saved-loads c o f e = rw e (shaped-loads c f)
+
 pub loads-back : (c : Collector) → Fits c → Loads (stateOctets c) c
 loads-back c f = shaped-loads c (fits-shaped f)
 

@@ -1,5 +1,5 @@
 -- A link's octets are that link, and octets that are a link are its octets.
-use Prim.Native.Nat.{ℕ, zero, suc, _+_, _*_, _/_, _%_, _<_}
+use Prim.Native.Nat.{ℕ, zero, suc, _+_, _*_, _/_, _%_, _≤_, _<_}
 use native.Mathlib.Omega.{arith}
 use mathlib.Core.Path.{_≡_, refl, ap, _∙_}
 use mathlib.Core.Bool.{true, false}
@@ -11,9 +11,11 @@ use borrow.Author.Tests.{ne-eqb, lt-leb, eqb-true}
 use Rattle.octets.specs.Choice.{pick-so, not-so}
 use Rattle.octets.specs.Every.{octets-part}
 use Rattle.octets.specs.Reading.{oct, Octets}
+use Rattle.octets.specs.Splice.{splice}
 use Rattle.frames.specs.declared.Phase.{Phase}
 use Rattle.frames.specs.declared.Phase.the-variants.{Hunting, Preamble, Header, Data}
 use Rattle.frames.specs.declared.Link.{Link}
+use Rattle.records.proofs.Areas.{three-laid}
 use Rattle.records.proofs.Networks.{two-back}
 use Rattle.state.specs.Link.{linkSize, phaseOctets, linkOctets, PhaseFits, phaseGood, phaseAt, linkGood, linkOf}
 use Rattle.state.proofs.Parts.{cut-run, cut-size, run-all, join}
@@ -94,3 +96,11 @@ module _ (s : List ℕ) (os : Octets s) (size : length s ≡ linkSize) (good : l
   pub link-fits : LinkFits (linkOf s)
   unfolding linkOf
   link-fits = record { phase = phased .1; head = cut-size 5 3 s (omega arith); headOctets = octets-part s 3 5 os; first = os 8 }
+
+-- ---- its parts, laid one after the other
+pub link-laid : (area p : List ℕ) (l : Link) {l₁ l₂ l₃ : List ℕ} → linkSize ≤ length area → length (l .head) ≡ 5 → p ≡ phaseOctets (l .phase)
+    → l₁ ≡ splice area 0 p → l₂ ≡ splice l₁ 3 (l .head) → l₃ ≡ splice l₂ 8 (l .first ∷ []) → l₃ ≡ splice area 0 (linkOctets l)
+unfolding linkOctets
+link-laid area p l n h q e₁ e₂ e₃ =
+    let m = phase-size (l .phase) in
+    three-laid area 0 3 8 (phaseOctets (l .phase)) (l .head) (l .first ∷ []) (rw q at e₁) e₂ e₃ (omega arith) (omega arith) (omega arith)

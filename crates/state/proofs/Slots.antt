@@ -1,9 +1,10 @@
 -- The slots, one after the other from any number on: one law for a slot of any number.
-use Prim.Native.Nat.{ℕ, zero, suc, _+_, _*_, _≤_, _<_}
+use Prim.Native.Nat.{ℕ, zero, suc, _+_, _-_, _*_, _≤_, _<_}
 use native.Mathlib.Omega.{arith}
 use mathlib.Core.Path.{_≡_, refl, sym, ap, subst, _∙_}
-use mathlib.Core.Bool.{true}
+use mathlib.Core.Bool.{Bool, true}
 use mathlib.Core.List.{List, [], _∷_, _++_, append-assoc, append-nil}
+use lib.Dec.{lit<}
 use lib.ListN.{length, getD, take, drop, length-append, drop-of-length-le}
 use lib.Seq.{take-at, drop-at, take-suc, take-length, length-take-le}
 use Rattle.octets.specs.Choice.{both-true}
@@ -16,7 +17,7 @@ use Rattle.collector.specs.Calls.{slotCount}
 use Rattle.state.specs.Slot.{slotSize, slotOctets, slotGood, slotOf}
 use Rattle.state.specs.Layout.{slotsPlace, slotPlace, slotsSize, stateSize, slotPart, slotsOctets, SlotsFit}
 use Rattle.state.specs.Calls.{goodAt, slotsGood, slotAt, slotsAt}
-use Rattle.state.proofs.Parts.{cut-size, cut-then, join}
+use Rattle.state.proofs.Parts.{cut-size, cut-by, cut-then, join}
 use Rattle.state.proofs.Slot.{slot-size, slot-back, slot-stands, slot-fits}
 
 -- ---- their octets' number
@@ -102,3 +103,23 @@ module _ (area : List ℕ) (xs : List Slot) (size : length area ≡ stateSize) (
   slots-all e =
       let t : take slotCount xs ≡ xs = subst (λ (k : ℕ). take k xs ≡ xs) four (take-length xs) in
       e ∙ ap (λ (l : List Slot). splice area slotsPlace (slotsOctets l)) t
+
+-- four of them
+pub slots-laid : (area : List ℕ) (xs : List Slot) {l₁ l₂ l₃ l₄ : List ℕ} → length area ≡ stateSize → length xs ≡ slotCount
+    → l₁ ≡ splice area (slotPlace 0) (slotOctets (getD xs 0 freeSlot)) → l₂ ≡ splice l₁ (slotPlace 1) (slotOctets (getD xs 1 freeSlot))
+    → l₃ ≡ splice l₂ (slotPlace 2) (slotOctets (getD xs 2 freeSlot)) → l₄ ≡ splice l₃ (slotPlace 3) (slotOctets (getD xs 3 freeSlot))
+    → l₄ ≡ splice area slotsPlace (slotsOctets xs)
+slots-laid area xs z f e₁ e₂ e₃ e₄ =
+    let l₁ = slots-more area xs z f 0 (lit< tt) (slots-none area xs z f) e₁ in
+    let l₂ = slots-more area xs z f 1 (lit< tt) l₁ e₂ in
+    let l₃ = slots-more area xs z f 2 (lit< tt) l₂ e₃ in
+    slots-all area xs z f (slots-more area xs z f 3 (lit< tt) l₃ e₄)
+
+-- ---- a slot found by its place and end
+pub slot-found : (o : List ℕ) (i at : ℕ) (x : Slot) → at ≡ slotPlace i → x ≡ slotOf (take (at + slotSize - at) (drop at o)) → x ≡ slotAt o i
+unfolding slotAt
+slot-found o i at x p e = cut-by slotOf o slotSize p e
+
+pub good-found : (o : List ℕ) (i at : ℕ) (g : Bool) → at ≡ slotPlace i → g ≡ slotGood (take (at + slotSize - at) (drop at o)) → g ≡ goodAt o i
+unfolding goodAt
+good-found o i at g p e = cut-by slotGood o slotSize p e

@@ -1,7 +1,7 @@
 use Rattle.octets.specs.Rules.{tests}
 use Rattle.rebuild.proofs.Seen.{length-of-map}
 use Rattle.state.proofs.Whole.{Shaped}
-use Rattle.state.proofs.Exact.{shaped-loads}
+use Rattle.state.proofs.Exact.{saved-loads}
 use borrow.Author.Needs.{needs}
 use Rattle.state.proofs.save.Statement.{statement}
 use Rattle.state.proofs.save.Tie as tie
@@ -17,6 +17,4 @@ save-spec =
     (λ c. record { answer = search (needs, tests); after = search (needs, tests); again = λ e. absurd (c .if1 .taken e) })
     (λ c κs. search needs)
     (λ c. search needs)
-    (λ c.
-    let st = c .before .before .before .before .before .before in
-    record { answer = search (needs, tests); after = search (needs, tests); again = λ e. rw (c .before .before .put-state .ensures) (shaped-loads (st .args .c) (shaped st)) }))
+    (λ c. record { answer = search (needs, tests); after = search (needs, tests); again = λ e. search (needs, saved-loads, shaped) }))

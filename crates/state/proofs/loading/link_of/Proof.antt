@@ -14,4 +14,4 @@ link-of-spec =
     (λ c. search needs)
     (λ c κs. search needs)
     (λ c. search needs)
-    (λ c. rw (c .before .phase-at .ensures, c .before .before .before .before .before .head-of .ensures)))
+    (λ c. cc))

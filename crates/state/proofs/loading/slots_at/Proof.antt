@@ -12,4 +12,4 @@ slots-at-spec =
     (λ c κs. search needs)
     (λ c κs. search needs)
     (λ c κs. search needs)
-    (λ c. rw (c .slot-at4 .ensures, c .before .slot-at3 .ensures, c .before .before .slot-at2 .ensures, c .before .before .before .slot-at .ensures)))
+    (λ c. cc))

@@ -1,6 +1,3 @@
-use native.Mathlib.Omega.{arith}
-use denote.Ref.{now}
-use lib.ListN.{length}
 use Rattle.rebuild.proofs.Seen.{length-of-map}
 use Rattle.state.proofs.Whole.{Shaped, state-laid}
 use borrow.Author.Needs.{needs}
@@ -22,4 +19,4 @@ put-state-spec =
     (λ c. search needs)
     (λ c.
     let st = c .before .before .before .before .before .before .before .before .before .before .before .before .before .before .before .before .before .before in
-    state-laid (st .args .c) (shaped st) (now (st .args .area)) (st .pre) (c .before .before .before .before .before .before .before .before .before .before .before .put-link .ensures) (c .before .before .before .before .before .before .copy .ensures) (c .before .before .put-slots .ensures)))
+    state-laid (st .args .c) (shaped st) _ (st .pre) (c .before .before .before .before .before .before .before .before .before .before .before .put-link .ensures) (c .before .before .before .before .before .before .copy .ensures) (c .before .before .put-slots .ensures)))
