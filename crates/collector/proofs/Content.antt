@@ -18,6 +18,7 @@ use Rattle.apdu.proofs.Exact.{params-within}
 use Rattle.apdu.specs.Fields.{tailEnd, paramsAt}
 use Rattle.apdu.specs.declared.Pdu.{Pdu}
 use Rattle.apdu.specs.declared.Pdu.the-variants.{Request, Unconfirmed, SimpleAck, ComplexAck, SegmentAck, Error, Reject, Abort}
+use Rattle.apdu.specs.declared.Answer.{Answer}
 use Rattle.apdu.specs.declared.Answer.the-variants.{Good, Refused}
 use Rattle.items.specs.Reading.{Out, itemsOf, counted}
 use Rattle.items.specs.Reading.Out.{good, bad}
@@ -25,13 +26,16 @@ use Rattle.items.specs.declared.Tally.{Tally}
 use Rattle.items.specs.declared.Tally.the-variants.{Items}
 use Rattle.messages.specs.Slots.{part}
 use Rattle.rebuild.specs.View as View
-use Rattle.rebuild.specs.declared.Step.the-variants.{Complete}
+use Rattle.rebuild.specs.declared.Step as Steps
+use Rattle.rebuild.specs.declared.Step.{Step}
+use Rattle.rebuild.specs.declared.Step.the-variants.{Held, Complete}
 use Rattle.reports.specs.Layout.{reportOctets}
-use Rattle.reports.specs.Kinds.{unsegmented, complete, refusal}
+use Rattle.reports.specs.Kinds.{unsegmented, segmentTaken, complete, refusal}
 use Rattle.reports.specs.declared.Report.{Report}
-use Rattle.collector.specs.Heard.{partsOf}
+use Rattle.collector.specs.Heard.{Route, routeOf, partsOf}
 use Rattle.collector.specs.Frame.{keyOf, segmentFrom, byTags, plainReport, stepReport, apduContent, npduContent, contentOf}
 use Rattle.collector.specs.Frame.Content.{other, refuses, network, refusesBehind, message}
+use Rattle.collector.specs.Acting.{Named}
 use Rattle.collector.specs.declared.heard.Heard.{Heard}
 use Rattle.collector.specs.declared.heard.Parts.{Parts}
 
@@ -54,22 +58,23 @@ module _ (payload : List ℕ) (n : Reading) (e : n ≡ readNpdu payload) where
   unfolding npduContent
   npdu-refused h = rw (← e, lt-ltb 0 (n .refused) h)
 
-  pub npdu-network : n .refused ≤ 0 → n .head .message ≡ true → npduContent payload (readNpdu payload) ≡ network (length payload - n .next)
+  pub npdu-network : n .refused ≤ 0 → n .head .message ≡ true → npduContent payload (readNpdu payload) ≡ network (routeOf (n .head)) (length payload - n .next)
   unfolding npduContent
-  npdu-network h m = rw (← e, le-ltb 0 (n .refused) h, given-true (n .head .message) (network (length payload - n .next)) _ m)
+  npdu-network h m = rw (← e, le-ltb 0 (n .refused) h, given-true (n .head .message) (network (routeOf (n .head)) (length payload - n .next)) _ m)
 
-  pub npdu-apdu : n .refused ≤ 0 → n .head .message ≡ false → npduContent payload (readNpdu payload) ≡ apduContent (drop (n .next) payload) (readApdu (drop (n .next) payload))
+  pub npdu-apdu : n .refused ≤ 0 → n .head .message ≡ false → npduContent payload (readNpdu payload) ≡ apduContent (routeOf (n .head)) (drop (n .next) payload) (readApdu (drop (n .next) payload))
   unfolding npduContent
-  npdu-apdu h m = rw (← e, le-ltb 0 (n .refused) h, given-false (n .head .message) (network (length payload - n .next)) _ m)
+  npdu-apdu h m = rw (← e, le-ltb 0 (n .refused) h, given-false (n .head .message) (network (routeOf (n .head)) (length payload - n .next)) _ m)
 
   pub next-inside : n .next ≤ length payload
   next-inside = rw e (next-within payload)
 
-pub apdu-refused : (a : List ℕ) (n : ℕ) → readApdu a ≡ Refused n → apduContent a (readApdu a) ≡ refusesBehind n
-apdu-refused a n e = rw e
+-- an APDU that was read, x being the answer
+pub apdu-refused : (v : Route) (a : List ℕ) {x : Answer} (n : ℕ) → x ≡ readApdu a → x ≡ Refused n → apduContent v a (readApdu a) ≡ refusesBehind v n
+apdu-refused v a n e q = rw (← e, q)
 
-pub apdu-good : (a : List ℕ) (p : Pdu) (m : Parts) → readApdu a ≡ Good p → m ≡ partsOf p (oct a 0) → apduContent a (readApdu a) ≡ message m a
-apdu-good a p m e q = rw (e, q)
+pub apdu-good : (v : Route) (a : List ℕ) {x : Answer} (p : Pdu) {m : Parts} → x ≡ readApdu a → x ≡ Good p → m ≡ partsOf p (oct a 0) → apduContent v a (readApdu a) ≡ message v m a
+apdu-good v a p e q k = rw (← e, q, k)
 
 -- every header has two octets
 pub params-some : (p : Pdu) → 2 ≤ paramsAt p
@@ -84,23 +89,31 @@ params-some (Reject p) = lit≤ tt
 params-some (Abort p) = lit≤ tt
 
 -- and lies within the octets that it was read from
-pub some-octets : (a : List ℕ) (p : Pdu) → readApdu a ≡ Good p → 0 < length a
-some-octets a p e = omega (arith, params-some p, params-within a p e)
+pub some-octets : (a : List ℕ) {x : Answer} (p : Pdu) → x ≡ readApdu a → x ≡ Good p → 0 < length a
+some-octets a p e q = omega (arith, params-some p, params-within a p (sym e ∙ q))
 
-pub parts-within : (a : List ℕ) (p : Pdu) (m : Parts) → readApdu a ≡ Good p → m ≡ partsOf p (oct a 0) → m .params ≤ length a
+pub parts-within : (a : List ℕ) {x : Answer} (p : Pdu) {m : Parts} → x ≡ readApdu a → x ≡ Good p → m ≡ partsOf p (oct a 0) → m .params ≤ length a
 unfolding partsOf
-parts-within a p m e q = rw q (params-within a p e)
+parts-within a p e q k = rw k (params-within a p (sym e ∙ q))
 
 -- tags by their count
-pub tags-good : (x : Out) (fine : Report) (n : ℕ) → counted x ≡ Items n → byTags x fine ≡ fine
+tags-good : (x : Out) (fine : Report) (n : ℕ) → counted x ≡ Items n → byTags x fine ≡ fine
 unfolding counted
 tags-good (good rs end) fine n e = refl
 tags-good (bad y) fine n e = impossible (cc)
 
-pub tags-bad : (x : Out) (fine : Report) (y : ℕ) → counted x ≡ Tally.Refused y → byTags x fine ≡ refusal (fine .frame) y
+tags-bad : (x : Out) (fine : Report) (y : ℕ) → counted x ≡ Tally.Refused y → byTags x fine ≡ refusal (fine .frame) y
 unfolding counted
 tags-bad (good rs end) fine y e = impossible (cc)
 tags-bad (bad z) fine y e = let q : z ≡ y = cc in ap (refusal (fine .frame)) q
+
+-- the report by the tags, y being the answer of counting them
+module _ (x : Out) (fine : Report) {y : Tally} {report : List ℕ} (e : y ≡ counted x) where
+  pub tags-put : {n : ℕ} → y ≡ Items n → report ≡ reportOctets fine → report ≡ reportOctets (byTags x fine)
+  tags-put {n} q h = h ∙ ap reportOctets (sym (tags-good x fine n (sym e ∙ q)))
+
+  pub tags-turn : {n : ℕ} {r : Report} → y ≡ Tally.Refused n → r ≡ refusal (fine .frame) n → report ≡ reportOctets r → report ≡ reportOctets (byTags x fine)
+  tags-turn {n} q k h = h ∙ ap reportOctets (k ∙ sym (tags-bad x fine n (sym e ∙ q)))
 
 -- ---- parts of a slice, as the code lends them
 pub part-rest : (s : List ℕ) (at : ℕ) → take (length s - at) (drop at s) ≡ drop at s
@@ -111,16 +124,27 @@ part-from s from n = let e : from + n - from ≡ n = omega arith in rw e
 
 -- ---- what is lent, in place of what the definitions name
 module _ (w : Heard) (m : Parts) (a : List ℕ) where
-  pub plain-put : {r : Report} {report : List ℕ} → r ≡ unsegmented (w .frame) (m .apdu) (length a)
+  pub plain-put : (v : Route) {r : Report} {report : List ℕ} → r ≡ unsegmented (w .frame) (m .apdu) (length a)
       → report ≡ reportOctets (byTags (itemsOf (take (length a - m .params) (drop (m .params) a))) r)
-      → report ≡ reportOctets (plainReport w (message m a))
-  plain-put e q = q ∙ rw (e, part-rest a (m .params))
+      → report ≡ reportOctets (plainReport w (message v m a))
+  plain-put v e q = q ∙ rw (e, part-rest a (m .params))
 
   pub segment-is :
       View.segmentOf (record { key = keyOf w m; number = m .segment .number; mor = m .segment .mor; choice = m .apdu .choice }) (take (length a - m .params) (drop (m .params) a)) ≡ segmentFrom w m a
   segment-is = rw (part-rest a (m .params))
 
-pub complete-put : (w : Heard) (m : Parts) {r : Report} {report : List ℕ} (slot total at : ℕ) (area : List ℕ) → at ≡ slot → r ≡ complete (w .frame) (m .apdu) slot total
-    → report ≡ reportOctets (byTags (itemsOf (take (16384 * at + total - 16384 * at) (drop (16384 * at) area))) r)
-    → report ≡ reportOctets (stepReport w m (Complete slot total) area)
-complete-put w m slot total at area e d q = q ∙ rw (e, d, part-from area (16384 * slot) total)
+-- the report of a segment, by the answer of the call
+module _ (w : Heard) (m : Parts) (area : List ℕ) {step : Step} {report : List ℕ} where
+  pub answer-refused : {n : ℕ} → step ≡ Steps.the-variants.Refused n → report ≡ reportOctets (refusal (w .frame) n) → report ≡ reportOctets (stepReport w m step area)
+  answer-refused e q = rw e q
+
+  pub answer-taken : {i n : ℕ} {r : Report} → step ≡ Held i n → r ≡ segmentTaken (w .frame) (m .apdu) i n → report ≡ reportOctets r → report ≡ reportOctets (stepReport w m step area)
+  answer-taken e d q = rw e (q ∙ ap reportOctets d)
+
+  -- the octets of the slot, as the code lends them
+  pub answer-complete : {i n at : ℕ} {r : Report} → step ≡ Complete i n → at ≡ i → r ≡ complete (w .frame) (m .apdu) i n
+      → report ≡ reportOctets (byTags (itemsOf (take (16384 * at + n - 16384 * at) (drop (16384 * at) area))) r) → report ≡ reportOctets (stepReport w m step area)
+  answer-complete {i} {n} e k d q = rw e (q ∙ rw (k, d, part-from area (16384 * i) n))
+
+pub answer-within : (area : List ℕ) {step : Step} {i n at : ℕ} → step ≡ Complete i n → at ≡ i → Named step area → 16384 * at + n ≤ length area
+answer-within area {n = n} e k h = rw k (rw e at h)

@@ -26,6 +26,7 @@ use Rattle.recordings.proofs.Demand.{whole, offerable}
 use Rattle.recordings.proofs.Deeds as Deeds
 use Rattle.reports.specs.Kinds.{refusal}
 use Rattle.reports.specs.Layout.{reportOctets}
+use Rattle.collector.specs.Heard.{Route}
 use Rattle.collector.specs.Frame.{segmentFrom, bacnet}
 use Rattle.collector.specs.Frame.Content.{message}
 use Rattle.collector.specs.Acting.{acting}
@@ -63,11 +64,11 @@ module _ (c : Collector) (area : List ℕ) (P : Passes c) (z : length area ≡ 6
       Deeds.message keys key-laws bacnet (readFrom (c .receiver) (wire all)) (length (heldOf (c .receiver))) (slotsOf c) area (fair (c .slots) area (P .slots) z) front e o g here is k i n
 
   -- a repeated or late segment changes nothing: 52
-  pub late : (w : Heard) (m : Parts) (a : List ℕ) (i : ℕ) → m .segment .seg ≡ true → slotOf keys (segmentFrom w m a .key) (slotsOf c) ≡ some i
+  pub late : (w : Heard) (v : Route) (m : Parts) (a : List ℕ) (i : ℕ) → m .segment .seg ≡ true → slotOf keys (segmentFrom w m a .key) (slotsOf c) ≡ some i
       → eqb (m .segment .number) 0 ≡ false → eqb (m .segment .number) (slotAt keys (slotsOf c) i .next) ≡ false
-      → acting w (message m a) (slotsOf c) area ≡ (reportOctets (refusal (w .frame) 52), slotsOf c, area)
-  late w m a i s k n d =
-      acts-segment w m a (slotsOf c) area s
+      → acting w (message v m a) (slotsOf c) area ≡ (reportOctets (refusal (w .frame) 52), slotsOf c, area)
+  late w v m a i s k n d =
+      acts-segment w v m a (slotsOf c) area s
       ∙ rw (repeated keys (segmentFrom w m a) (boxed (slotsOf c) area) i k n d)
 
   -- two keys never share octets: what two open slots hold lies apart

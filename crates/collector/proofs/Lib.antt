@@ -1,6 +1,7 @@
 pub mod Content
 pub mod Actions
 pub mod Answers
+pub mod Eaten
 pub mod Refusals
 pub mod Alike
 pub mod Reached

@@ -13,8 +13,9 @@ use Rattle.rebuild.specs.declared.Slots.{Slots}
 use Rattle.rebuild.specs.declared.Step.{Step}
 use Rattle.rebuild.specs.declared.Step.the-variants.{Refused, Held, Complete}
 use Rattle.recordings.specs.Frames.{actOn}
-use Rattle.reports.specs.Layout.{reportSize}
-use Rattle.collector.specs.Frame.{Content, segmentIn, contents}
+use Rattle.reports.specs.Layout.{reportSize, reportOctets}
+use Rattle.collector.specs.Heard.{Route}
+use Rattle.collector.specs.Frame.{Content, segmentIn, plainReport, contents}
 use Rattle.collector.specs.declared.heard.Heard.{Heard}
 use Rattle.collector.specs.declared.heard.Parts.{Parts}
 
@@ -30,6 +31,13 @@ pub record Acted (w : Acts) (t : Slots) (report area : List ℕ) : Type 0 where
   pub said : report ≡ w .0
   pub slots : view t ≡ w .1
   pub left : area ≡ w .2
+
+-- the same behind a good network header, whatever addresses it gives: what is done, and what is said of an APDU that is no segment
+abbrev pub ActedBehind : Heard → (Route → Content) → Slots → List ℕ → Slots → List ℕ → List ℕ → Type 0
+ActedBehind w x t area u report later = (v : Route) → Acted (acting w (x v) (view t) area) u report later
+
+abbrev pub SaidBehind : Heard → (Route → Content) → List ℕ → Type 0
+SaidBehind w x report = (v : Route) → report ≡ reportOctets (plainReport w (x v))
 
 -- slots that have not moved are those that were there
 abbrev pub Kept : Bool → Slots → Slots → Type 0

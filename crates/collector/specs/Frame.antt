@@ -26,28 +26,28 @@ use Rattle.recordings.specs.Frames.{Frames}
 use Rattle.reports.specs.Layout.{reportOctets}
 use Rattle.reports.specs.Kinds.{otherFrame, damaged, unsegmented, segmentTaken, complete, refusal, networkMessage}
 use Rattle.reports.specs.declared.Report.{Report}
-use Rattle.collector.specs.Heard.{heardOf, partsOf}
+use Rattle.collector.specs.Heard.{heardOf, Route, routeOf, partsOf}
 use Rattle.collector.specs.declared.heard.Heard.{Heard}
 use Rattle.collector.specs.declared.heard.Parts.{Parts}
 
--- what a frame's data are
+-- what a frame's data are; behind a good network header, with its two addresses
 pub data Content : Type 0 where
   other : ℕ → Content  -- of a type other than 5 and 6, and the octets of its data
   refuses : ℕ → Content  -- a network header that is refused: 10 to 14
-  network : ℕ → Content  -- a network layer message, and the octets after its type (and vendor)
-  refusesBehind : ℕ → Content  -- an APDU header that is refused behind a good network header: 20 to 24
-  message : Parts → List ℕ → Content  -- an APDU taken apart, and all its octets
+  network : Route → ℕ → Content  -- a network layer message, and the octets after its type (and vendor)
+  refusesBehind : Route → ℕ → Content  -- an APDU header that is refused: 20 to 24
+  message : Route → Parts → List ℕ → Content  -- an APDU taken apart, and all its octets
 
-abbrev pub apduContent : List ℕ → Answer → Content
-apduContent a (Good p) = message (partsOf p (oct a 0)) a
-apduContent a (Refused n) = refusesBehind n
+abbrev pub apduContent : Route → List ℕ → Answer → Content
+apduContent v a (Good p) = message v (partsOf p (oct a 0)) a
+apduContent v a (Refused n) = refusesBehind v n
 
 -- what follows the network header
 unfoldable pub npduContent : List ℕ → Reading → Content
 npduContent payload n =
     refuse (ltb 0 (n .refused)) (refuses (n .refused))
-    (given (n .head .message) (network (length payload - n .next))
-    (apduContent (drop (n .next) payload) (readApdu (drop (n .next) payload))))
+    (given (n .head .message) (network (routeOf (n .head)) (length payload - n .next))
+    (apduContent (routeOf (n .head)) (drop (n .next) payload) (readApdu (drop (n .next) payload))))
 
 unfoldable pub contentOf : Heard → List ℕ → Content
 contentOf w payload =
@@ -69,9 +69,9 @@ segmentFrom w m a =
 abbrev pub segmentIn : Heard → Content → Option (Messages.Segment Key)
 segmentIn w (other n) = none
 segmentIn w (refuses n) = none
-segmentIn w (network n) = none
-segmentIn w (refusesBehind n) = none
-segmentIn w (message m a) = given (m .segment .seg) (some (segmentFrom w m a)) none
+segmentIn w (network v n) = none
+segmentIn w (refusesBehind v n) = none
+segmentIn w (message v m a) = given (m .segment .seg) (some (segmentFrom w m a)) none
 
 -- ---- the reports
 -- "its tags good", or kind 6 with the tag number
@@ -83,9 +83,9 @@ byTags (bad x) fine = refusal (fine .frame) x
 abbrev pub plainReport : Heard → Content → Report
 plainReport w (other n) = otherFrame (w .frame) n
 plainReport w (refuses n) = refusal (w .frame) n
-plainReport w (network n) = networkMessage (w .frame) n
-plainReport w (refusesBehind n) = refusal (w .frame) n
-plainReport w (message m a) = byTags (itemsOf (paramsOf m a)) (unsegmented (w .frame) (m .apdu) (length a))
+plainReport w (network v n) = networkMessage (w .frame) n
+plainReport w (refusesBehind v n) = refusal (w .frame) n
+plainReport w (message v m a) = byTags (itemsOf (paramsOf m a)) (unsegmented (w .frame) (m .apdu) (length a))
 
 -- a segment, by its answer and the area after it: "A completed message with bad tags is kind 6 with its tag number"
 abbrev pub stepReport : Heard → Parts → Step.Step → List ℕ → Report
@@ -94,11 +94,11 @@ stepReport w m (Held i total) area = segmentTaken (w .frame) (m .apdu) i total
 stepReport w m (Complete i total) area = byTags (itemsOf (part (room * i) total area)) (complete (w .frame) (m .apdu) i total)
 
 abbrev pub answeredReport : Heard → Content → Rows.Answer → List ℕ → Report
-answeredReport w (message m a) x area = stepReport w m (stepOf x) area
+answeredReport w (message v m a) x area = stepReport w m (stepOf x) area
 answeredReport w (other n) x area = refusal (w .frame) 0
 answeredReport w (refuses n) x area = refusal (w .frame) 0
-answeredReport w (network n) x area = refusal (w .frame) 0
-answeredReport w (refusesBehind n) x area = refusal (w .frame) 0
+answeredReport w (network v n) x area = refusal (w .frame) 0
+answeredReport w (refusesBehind v n) x area = refusal (w .frame) 0
 
 -- ---- all of it as the rules that demand 3 is stated over: of a content, and of what ends on the trunk
 abbrev pub contents : Heard → Frames Content Key (List ℕ)

@@ -1,7 +1,10 @@
--- What a good frame hands down: its type, destination and source; and an APDU taken apart.
+-- What a good frame hands down: its type, destination and source; the network header's two addresses; and an APDU taken apart.
 use Prim.Native.Nat.{ℕ}
 use mathlib.Core.List.{List}
 use Rattle.octets.specs.Reading.{oct}
+use Rattle.npdu.specs.Address.{sourceOf, destinationOf}
+use Rattle.npdu.specs.declared.Address.{Address}
+use Rattle.npdu.specs.declared.Npdu.{Npdu}
 use Rattle.apdu.specs.Fields.{kindOf, invokeOf, choiceOf, segmentOf, paramsAt}
 use Rattle.apdu.specs.declared.Pdu.{Pdu}
 use Rattle.collector.specs.declared.heard.Heard.{Heard}
@@ -10,6 +13,14 @@ use Rattle.collector.specs.declared.heard.Parts.{Parts}
 -- the first three octets of the frame's head
 abbrev pub heardOf : List ℕ → Heard
 heardOf head = record { frame = record { kind = oct head 0; destination = oct head 1; source = oct head 2 } }
+
+-- where a message comes from and where it goes, behind a router or not
+pub record Route : Type 0 where
+  pub source : Address
+  pub destination : Address
+
+abbrev pub routeOf : Npdu → Route
+routeOf h = record { source = sourceOf h; destination = destinationOf h }
 
 -- a PDU and its first octet
 unfoldable pub partsOf : Pdu → ℕ → Parts

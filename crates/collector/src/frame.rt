@@ -20,8 +20,8 @@ ghost use Rattle.rebuild.specs.View.{view};
 ghost use Rattle.reports.specs.Layout.{reportSize, reportOctets};
 ghost use Rattle.reports.specs.Kinds.{damaged, refusal};
 ghost use Rattle.collector.specs.Heard.{heardOf};
-ghost use Rattle.collector.specs.Frame.{Content, byTags, stepReport, plainReport, npduContent, apduContent, contentOf};
-ghost use Rattle.collector.specs.Acting.{acting, Named, Segmented, Acted, Kept, Lent};
+ghost use Rattle.collector.specs.Frame.{Content, byTags, stepReport, npduContent, apduContent, contentOf};
+ghost use Rattle.collector.specs.Acting.{acting, Named, Segmented, Acted, ActedBehind, SaidBehind, Kept, Lent};
 
 // Kind 2: damage.
 pub fn put_damage(out: &mut [u8], n: u8)
@@ -82,10 +82,10 @@ fn put_answer(w: Heard, m: Parts, step: Step, out: &mut [u8], area: &[u8])
     }
 }
 
-// A segment: rebuilding, then its report.
+// A segment, whatever the addresses v that its network header gives: rebuilding, then its report.
 fn act_segment(w: Heard, m: Parts, a: &[u8], slots: Slots, out: &mut [u8], area: &mut [u8]) -> Slots
     requires { ⌜ Lent (now out) slots (now area) × Segmented m (now a) ⌝ }
-    ensures { λ r. ⌜ Acted (acting w (Content.message m (now (a .entry))) (view slots) (now (area .entry))) r (now (out .exit)) (now (area .exit)) ⌝ }
+    ensures { λ r. ⌜ ActedBehind w (λ v. Content.message v m (now (a .entry))) slots (now (area .entry)) r (now (out .exit)) (now (area .exit)) ⌝ }
 {
     let frame = w.frame;
     let apdu = m.apdu;
@@ -108,10 +108,10 @@ fn act_segment(w: Heard, m: Parts, a: &[u8], slots: Slots, out: &mut [u8], area:
     t.slots
 }
 
-// An APDU that is no segment: its tags are judged.
+// An APDU that is no segment, whatever its addresses: its tags are judged.
 fn put_plain(w: Heard, m: Parts, a: &[u8], out: &mut [u8])
     requires { ⌜ (length (now out) ≡ reportSize) × ((m .params ≤ length (now a)) × (length (now a) ≤ 501)) ⌝ }
-    ensures { λ _. ⌜ now (out .exit) ≡ reportOctets (plainReport w (Content.message m (now (a .entry)))) ⌝ }
+    ensures { λ _. ⌜ SaidBehind w (λ v. Content.message v m (now (a .entry))) (now (out .exit)) ⌝ }
 {
     let frame = w.frame;
     let apdu = m.apdu;
@@ -123,10 +123,10 @@ fn put_plain(w: Heard, m: Parts, a: &[u8], out: &mut [u8])
     );
 }
 
-// An APDU, by its octets.
+// An APDU, by its octets, whatever its addresses.
 fn act_apdu(w: Heard, a: &[u8], slots: Slots, out: &mut [u8], area: &mut [u8]) -> Slots
     requires { ⌜ Lent (now out) slots (now area) × (length (now a) ≤ 501) ⌝ }
-    ensures { λ r. ⌜ Acted (acting w (apduContent (now (a .entry)) (readApdu (now (a .entry)))) (view slots) (now (area .entry))) r (now (out .exit)) (now (area .exit)) ⌝ }
+    ensures { λ r. ⌜ ActedBehind w (λ v. apduContent v (now (a .entry)) (readApdu (now (a .entry)))) slots (now (area .entry)) r (now (out .exit)) (now (area .exit)) ⌝ }
 {
     match apdu::read(a) {
         Answer::Refused(n) => {

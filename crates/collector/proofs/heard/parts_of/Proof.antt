@@ -20,7 +20,7 @@ params-at-requires c κs = search needs
 
 returns : tie.Need-returns
 unfolding partsOf
-returns c = rw (c .before .kind-of .ensures, c .before .before .before .before .invoke-of .ensures, c .before .before .before .choice-of .ensures, c .before .before .segment-of .ensures, c .params-at .ensures)
+returns c = cc
 
 pub parts-of-spec : {M : Type 1} → statement M
 parts-of-spec =

@@ -1,0 +1,55 @@
+-- The ways in which a piece over a lent store comes to what it promises, from what the calls below it promise: b is the slots' soundness, f the link's answer.
+use Prim.Native.Nat.{ℕ, _≤_}
+use mathlib.Core.Path.{_≡_, refl, sym, _∙_}
+use mathlib.Core.Bool.{Bool, true, false, not}
+use mathlib.Core.List.{List}
+use lib.ListN.{length, take}
+use borrow.Author.Tests.{not-true, not-false}
+use Rattle.frames.specs.declared.Outcome.the-variants.{Quiet, Frame, Damage}
+use Rattle.frames.specs.declared.Link.{Link}
+use Rattle.frames.specs.declared.Ran.{Ran}
+use Rattle.frames.specs.Step as Frames
+use Rattle.frames.specs.Step.{lengthOf, feedOf}
+use Rattle.trunk.specs.Demand.{ruled}
+use Rattle.rebuild.specs.View.{keys, view}
+use Rattle.rebuild.specs.declared.Slots.{Slots}
+use Rattle.recordings.specs.Frames.{rules}
+use Rattle.reports.specs.Layout.{reportSize}
+use Rattle.collector.specs.Heard.{heardOf}
+use Rattle.collector.specs.Frame.{contentOf, bacnet, damageOctets}
+use Rattle.collector.specs.Acting.{acting, Acted, Kept, Lent}
+use Rattle.collector.specs.Calls.{passing, Tells, Feeds}
+use Rattle.collector.specs.Lent.{over, fedOver, Eats, unfedBy}
+use Rattle.collector.specs.declared.Fed.{Fed}
+use Rattle.collector.specs.declared.frame.Done.{Done}
+use Rattle.collector.specs.declared.lent.Ate.{Ate}
+use Rattle.collector.proofs.Answers.{feeds-line, feeds-area, feeds-slots, feeds-on, tells-quiet, tells-damage, tells-frame, data-fits, in-store, payload-fits, eats-not}
+
+module _ (l : Link) (t : Slots) (store report area piece : List ℕ) where
+  pub eats-line : {r : Ate} → (length report ≡ reportSize → ⊥) → r ≡ unfedBy 60 l t → Eats l t store report area piece r store report area
+  eats-line h u = eats-not u (feeds-line (over l t store) report area piece h)
+
+  pub eats-area : {r : Ate} → length report ≡ reportSize → (length area ≡ 65536 → ⊥) → r ≡ unfedBy 60 l t → Eats l t store report area piece r store report area
+  eats-area k h u = eats-not u (feeds-area (over l t store) report area piece k h)
+
+  module _ (k : length report ≡ reportSize) (z : length area ≡ 65536) {b : Bool} (e : b ≡ passing (view t)) where
+    pub eats-slots : {r : Ate} → not b ≡ true → r ≡ unfedBy 59 l t → Eats l t store report area piece r store report area
+    eats-slots n u = eats-not u (feeds-slots (over l t store) report area piece k z (sym e ∙ not-true b n))
+
+    module _ (n : not b ≡ false) (f : Ran) (store′ : List ℕ) (g : Frames.fedOver f store′ ≡ feedOf (Frames.over l store) piece) where
+      feeds : {r : Fed} {report′ area′ : List ℕ} → Tells (f .refused) (ruled (rules keys bacnet) (view t) area (Frames.fedOver f store′)) report r report′ area′
+          → Feeds (over l t store) report area piece r report′ area′
+      feeds h = feeds-on (over l t store) report area piece k z (sym e ∙ not-false b n) {f = Frames.fedOver f store′} g h
+
+      pub eats-quiet : f .outcome ≡ Quiet
+          → Eats l t store report area piece (record { refused = f .refused; eaten = f .eaten; reported = false; moved = false; link = f .link; slots = t }) store′ report area
+      eats-quiet o = record { feeds = feeds (tells-quiet (Frames.fedOver f store′) t report area o); kept = λ x. refl }
+
+      pub eats-damage : {d : ℕ} {report′ : List ℕ} → f .outcome ≡ Damage d → report′ ≡ damageOctets d
+          → Eats l t store report area piece (record { refused = f .refused; eaten = f .eaten; reported = true; moved = false; link = f .link; slots = t }) store′ report′ area
+      eats-damage {d} o h = record { feeds = feeds (tells-damage (Frames.fedOver f store′) t report area d o h); kept = λ x. refl }
+
+      pub eats-frame : {m : ℕ} (d : Done) {report′ area′ : List ℕ} → f .outcome ≡ Frame → m ≡ lengthOf (f .link .head)
+          → (let w = heardOf (f .link .head) in Acted (acting w (contentOf w (take m store′)) (view t) area) (d .slots) report′ area′ × Kept (d .moved) t (d .slots))
+          → Eats l t store report area piece (record { refused = f .refused; eaten = f .eaten; reported = true; moved = d .moved; link = f .link; slots = d .slots }) store′ report′ area′
+      eats-frame d o q h = record { feeds = feeds (tells-frame (Frames.fedOver f store′) t report area o (rw q at (h .0))); kept = h .1 }
