@@ -19,7 +19,7 @@ use Rattle.messages.specs.History.Deed.{segment, forgetting}
 use Rattle.messages.specs.History.Entry.{said, dropped}
 use Rattle.messages.proofs.Tests.{never}
 use Rattle.messages.proofs.Area.{part-grown}
-use Rattle.messages.proofs.Starts.{starts-zero, next-one}
+use Rattle.messages.proofs.Starts.{starts-zero}
 use Rattle.messages.proofs.Step.{Begins, Follows, Place, Step, stepped, Seen, seen, fits, elsewhere, there, good-rebuild, good-forget}
 use Rattle.messages.proofs.Step.Step.{stays, frees, took}
 use Rattle.messages.proofs.Recall.{Recalls, starting-starts, recalls-start, recalls-segment, recalls-forget}
@@ -39,6 +39,11 @@ length-numbers (g ∷ gs) = ap suc (length-numbers gs)
 length-below : (n : ℕ) → length (below n) ≡ n
 length-below zero = refl
 length-below (suc n) = rw (length-append, length-below n) (add-one n)
+
+-- the number after n is the next of them
+below-next : (n : ℕ) → below (nextNumber n) ≡ below n ++ (n ∷ [])
+unfolding nextNumber
+below-next n = rw (add-one n)
 
 -- octets are the message of a key so far, its numbers are 0, 1, .., and n comes next
 pub record Whole {Key : Type 0} (K : Keys Key) (k : Key) (log : Log Key) (xs : List ℕ) (n : ℕ) : Type 0 where
@@ -88,7 +93,7 @@ module _ {Key : Type 0} (K : Keys Key) where
             let z : g .number ≡ 0 = starts-zero (g .number) _ _ anew in
             record {
               octets = rw (ok, L .self (g .key), anew) (laid ∙ rw (h .none-before) (sym (append-nil (g .octets))));
-              order = rw (ok, L .self (g .key), anew) (rw (next-one (g .number), z));
+              order = rw (ok, L .self (g .key), anew) (rw (below-next (g .number), z));
             }
         by (inr h) =
             let later : starting K g log ≡ false = starting-starts K log g b R ∙ h .later in
@@ -99,7 +104,7 @@ module _ {Key : Type 0} (K : Keys Key) where
             let ords : numbers (since K (g .key) log) ≡ below (g .number) = ap (λ (k : Key). numbers (since K k log)) (sym (h .mine)) ∙ was .order ∙ ap below (sym (h .next)) in
             record {
               octets = rw (ok, L .self (g .key), later) (laid ∙ ap (λ (l : List ℕ). l ++ g .octets) octs ∙ sym (joined-append (since K (g .key) log) g));
-              order = rw (ok, L .self (g .key), later) (numbers-append (since K (g .key) log) g ∙ ap (λ (l : List ℕ). l ++ (g .number ∷ [])) ords ∙ rw (next-one (g .number), add-one (g .number)));
+              order = rw (ok, L .self (g .key), later) (numbers-append (since K (g .key) log) g ∙ ap (λ (l : List ℕ). l ++ (g .number ∷ [])) ords ∙ sym (below-next (g .number)));
             }
 
     -- the others

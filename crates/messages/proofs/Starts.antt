@@ -1,7 +1,7 @@
 -- What is asked of the number that starts a message and of the number after a number: nothing else looks into the two.
 use mathlib.Core.Path.{_≡_, refl}
 use mathlib.Core.Bool.{Bool, true, false}
-use Prim.Native.Nat.{ℕ, _+_}
+use Prim.Native.Nat.{ℕ}
 use native.Mathlib.Omega.{arith}
 use lib.Dec.{eqb}
 use borrow.Author.Tests.{eqb-true}
@@ -31,7 +31,3 @@ module _ (n : ℕ) where
   pub next-other : n ≡ nextNumber n → ⊥
   unfolding nextNumber
   next-other e = omega arith
-
-  pub next-one : nextNumber n ≡ n + 1
-  unfolding nextNumber
-  next-one = refl

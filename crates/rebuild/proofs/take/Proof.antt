@@ -29,27 +29,27 @@ four st = search (length-of-map, st .good)
 returns : tie.Need-returns
 returns c =
     let a = c .before .before .before .before .args in
-    gives-by (taking-60 (a .slots) (a .g) (now (a .octets)) (now (a .area)) (c .before .if1 .taken)) (gives-kept (a .slots) (now (a .area)) 60 (c .kept .ensures))
+    gives-by (taking-60 (a .slots) (a .g) (now (a .octets)) (now (a .area)) (search needs)) (gives-kept (a .slots) (now (a .area)) 60 (search needs))
 
 take-open-requires : tie.Need-take-open-requires
 take-open-requires c κs =
     let st = c .before .before .before .before .before .before .before .before .before in
     let o : mine st ≡ some _ = found-at (mine st) _ (sym (c .before .before .before .before .open-slot .ensures) ∙ c .before .before .s .given .1) in
-    (found-below (Messages.openTo keys (st .args .g .key)) (st .args .slots) _ 4 (four st) o, c .before .before .before .before .before .before .if1 .left)
+    (found-below (Messages.openTo keys (st .args .g .key)) (st .args .slots) _ 4 (four st) o, search needs)
 
 returns-2 : tie.Need-returns-2
 returns-2 c =
     let st = c .before .before .before .before .before .before .before .before .before .before .before .before in
     let a = st .args in
     let o = found-at (mine st) _ (sym (c .before .before .before .before .before .before .before .open-slot .ensures) ∙ c .before .before .before .before .before .s .given .1) in
-    gives-by (taking-on (a .slots) (a .g) (now (a .octets)) (now (a .area)) (c .before .before .before .before .before .before .before .before .before .if1 .left) ∙ rebuild-open keys (seg st) (box st) _ o) (c .before .before .take-open .ensures)
+    gives-by (taking-on (a .slots) (a .g) (now (a .octets)) (now (a .area)) (search needs) ∙ rebuild-open keys (seg st) (box st) _ o) (search needs)
 
 returns-3 : tie.Need-returns-3
 returns-3 c =
     let st = c .before .before .before .before .before .before .before .before .before .before .before in
     let a = st .args in
     let o = found-none 0 (mine st) (sym (c .before .before .before .before .before .before .open-slot .ensures) ∙ c .before .before .before .before .enum-told .given .1) in
-    gives-by (taking-on (a .slots) (a .g) (now (a .octets)) (now (a .area)) (c .before .before .before .before .before .before .before .before .if1 .left) ∙ rebuild-new keys (seg st) (box st) o) (c .before .before .take-new .ensures)
+    gives-by (taking-on (a .slots) (a .g) (now (a .octets)) (now (a .area)) (search needs) ∙ rebuild-new keys (seg st) (box st) o) (search needs)
 
 pub take-spec : {M : Type 1} → statement M
 take-spec =

@@ -48,17 +48,16 @@ starts st z f =
 returns : tie.Need-returns
 returns c =
     let st = c .before .before .before .before .before in
-    gives-by (new-51 keys (seg st) (box st) (sym (c .before .before .starts .ensures) ∙ not-true _ (c .before .if1 .taken))) (gives-kept (st .args .t) (now (st .args .area)) 51 (c .kept .ensures))
+    gives-by (new-51 keys (seg st) (box st) (sym (c .before .before .starts .ensures) ∙ not-true _ (c .before .if1 .taken)))
+    (gives-kept (st .args .t) (now (st .args .area)) 51 (search needs))
 
 returns-2 : tie.Need-returns-2
 returns-2 c =
     let st = c .before .before .before .before .before .before in
     let z : Anew st = sym (c .before .before .before .starts .ensures) ∙ not-false _ (c .before .before .if1 .left) in
     let over : 16384 < length (now (st .args .octets)) = c .before .if2 .taken in
-    gives-by
-    (new-start keys (seg st) (box st) z
-    ∙ fitted-54 keys (seg st) (box st) none 0 (not-spent st z) (lt-ltb 16384 (0 + length (now (st .args .octets))) (omega arith)))
-    (gives-kept (st .args .t) (now (st .args .area)) 54 (c .kept2 .ensures))
+    gives-by (new-start keys (seg st) (box st) z ∙ fitted-54 keys (seg st) (box st) none 0 (not-spent st z) (lt-ltb 16384 (0 + length (now (st .args .octets))) (omega arith)))
+    (gives-kept (st .args .t) (now (st .args .area)) 54 (search needs))
 
 settle-requires : tie.Need-settle-requires
 settle-requires c κs =
@@ -72,14 +71,15 @@ returns-3 c =
     let st = c .before .before .before .before .before .before .before .before .before .before .before .before .before in
     let z : Anew st = sym (c .before .before .before .before .before .before .before .before .before .before .starts .ensures) ∙ not-false _ (c .before .before .before .before .before .before .before .before .before .if1 .left) in
     let o = found-at (free st) _ (sym (c .before .before .before .before .before .before .before .lowest-free .ensures) ∙ c .before .before .before .before .before .s .given .1) in
-    gives-by (starts st z (c .before .before .before .before .before .before .before .before .if2 .left) ∙ ap (λ (o : Option ℕ). Rules.settled keys (seg st) o 0 (box st)) o) (c .before .before .settle .ensures)
+    gives-by (starts st z (search needs) ∙ ap (λ (o : Option ℕ). Rules.settled keys (seg st) o 0 (box st)) o) (search needs)
 
 returns-4 : tie.Need-returns-4
 returns-4 c =
     let st = c .before .before .before .before .before .before .before .before .before in
     let z : Anew st = sym (c .before .before .before .before .before .before .starts .ensures) ∙ not-false _ (c .before .before .before .before .before .if1 .left) in
     let o = found-none 0 (free st) (sym (c .before .before .before .lowest-free .ensures) ∙ c .before .enum-told .given .1) in
-    gives-by (starts st z (c .before .before .before .before .if2 .left) ∙ ap (λ (o : Option ℕ). Rules.settled keys (seg st) o 0 (box st)) o) (gives-kept (st .args .t) (now (st .args .area)) 50 (c .kept3 .ensures))
+    gives-by (starts st z (search needs) ∙ ap (λ (o : Option ℕ). Rules.settled keys (seg st) o 0 (box st)) o)
+    (gives-kept (st .args .t) (now (st .args .area)) 50 (search needs))
 
 pub take-new-spec : {M : Type 1} → statement M
 take-new-spec =

@@ -1,8 +1,6 @@
 use borrow.Author.Needs.{needs}
-use native.Mathlib.Omega.{arith}
-use borrow.Author.Tests.{eq-eqb, ne-eqb}
+use Rattle.octets.specs.Rules.{tests}
 use mathlib.Core.Path.{_≡_, sym, ap, _∙_}
-use mathlib.Core.Bool.{true, false}
 use mathlib.Core.Option.{some}
 use lib.ListN.{getD}
 use denote.Ref.{now}
@@ -32,30 +30,28 @@ by-record st = ap (λ (x : Messages.Slot Key). Rules.rows keys (seg st) (some (s
 returns : tie.Need-returns
 returns c =
     let st = c .before .before .before .before .before .before .before .before .before in
-    let anew : Rules.starts keys (seg st) (some (st .args .s)) (here st) ≡ true = sym (c .before .before .before .before .before .starts .ensures) ∙ c .before .before .before .before .if1 .taken in
-    gives-by (by-record st ∙ open-restart keys (seg st) (box st) (st .args .s) (here st) anew) (c .before .before .fitted .ensures)
+    let anew = sym (c .before .before .before .before .before .starts .ensures) ∙ c .before .before .before .before .if1 .taken in
+    gives-by (by-record st ∙ open-restart keys (seg st) (box st) (st .args .s) (here st) anew) (search needs)
 
 returns-2 : tie.Need-returns-2
 returns-2 c =
     let st = c .before .before .before .before .before .before .before .before .before in
-    let later : Rules.starts keys (seg st) (some (st .args .s)) (here st) ≡ false = sym (c .before .before .before .before .before .starts .ensures) ∙ c .before .before .before .before .if1 .left in
-    gives-by (by-record st ∙ open-52 keys (seg st) (box st) (st .args .s) (here st) later (ne-eqb (st .args .g .number) (here st .next) (λ e. omega (arith, c .before .if2 .taken))))
-    (gives-kept (st .args .t1) (now (st .args .area)) 52 (c .kept .ensures))
+    let anew = sym (c .before .before .before .before .before .starts .ensures) ∙ c .before .before .before .before .if1 .left in
+    gives-by (by-record st ∙ open-52 keys (seg st) (box st) (st .args .s) (here st) anew (search (needs, tests)))
+    (gives-kept (st .args .t1) (now (st .args .area)) 52 (search needs))
 
 returns-3 : tie.Need-returns-3
 returns-3 c =
     let st = c .before .before .before .before .before .before .before .before .before .before .before .before in
-    let later : Rules.starts keys (seg st) (some (st .args .s)) (here st) ≡ false = sym (c .before .before .before .before .before .before .before .before .starts .ensures) ∙ c .before .before .before .before .before .before .before .if1 .left in
-    let next = eq-eqb (st .args .g .number) (here st .next) (omega (arith, c .before .before .before .before .if2 .left)) in
-    gives-by (by-record st ∙ open-53 keys (seg st) (box st) (st .args .s) (here st) later next (ne-eqb _ _ (c .before .if3 .taken)))
-    (gives-kept (st .args .t1) (now (st .args .area)) 53 (c .kept2 .ensures))
+    let anew = sym (c .before .before .before .before .before .before .before .before .starts .ensures) ∙ c .before .before .before .before .before .before .before .if1 .left in
+    gives-by (by-record st ∙ open-53 keys (seg st) (box st) (st .args .s) (here st) anew (search (needs, tests)) (search (needs, tests)))
+    (gives-kept (st .args .t1) (now (st .args .area)) 53 (search needs))
 
 returns-4 : tie.Need-returns-4
 returns-4 c =
     let st = c .before .before .before .before .before .before .before .before .before .before .before .before .before .before .before .before in
-    let later : Rules.starts keys (seg st) (some (st .args .s)) (here st) ≡ false = sym (c .before .before .before .before .before .before .before .before .before .before .before .before .starts .ensures) ∙ c .before .before .before .before .before .before .before .before .before .before .before .if1 .left in
-    let next = eq-eqb (st .args .g .number) (here st .next) (omega (arith, c .before .before .before .before .before .before .before .before .if2 .left)) in
-    gives-by (by-record st ∙ open-on keys (seg st) (box st) (st .args .s) (here st) later next (eq-eqb _ _ (c .before .before .before .before .before .if3 .left))) (c .before .before .fitted2 .ensures)
+    let anew = sym (c .before .before .before .before .before .before .before .before .before .before .before .before .starts .ensures) ∙ c .before .before .before .before .before .before .before .before .before .before .before .if1 .left in
+    gives-by (by-record st ∙ open-on keys (seg st) (box st) (st .args .s) (here st) anew (search (needs, tests)) (search (needs, tests))) (search needs)
 
 pub take-open-spec : {M : Type 1} → statement M
 take-open-spec =
