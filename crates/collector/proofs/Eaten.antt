@@ -4,6 +4,7 @@ use mathlib.Core.Path.{_≡_, refl, sym, _∙_}
 use mathlib.Core.Bool.{Bool, true, false, not}
 use mathlib.Core.List.{List}
 use lib.ListN.{length, take}
+use lib.Seq.{length-take-le}
 use borrow.Author.Tests.{not-true, not-false}
 use Rattle.frames.specs.declared.Outcome.the-variants.{Quiet, Frame, Damage}
 use Rattle.frames.specs.declared.Link.{Link}
@@ -17,9 +18,9 @@ use Rattle.recordings.specs.Frames.{rules}
 use Rattle.reports.specs.Layout.{reportSize}
 use Rattle.collector.specs.Heard.{heardOf}
 use Rattle.collector.specs.Frame.{contentOf, bacnet, damageOctets}
-use Rattle.collector.specs.Acting.{acting, Acted, Kept, Lent}
+use Rattle.collector.specs.Acting.{acting, Acted, Kept}
 use Rattle.collector.specs.Calls.{passing, Tells, Feeds}
-use Rattle.collector.specs.Lent.{over, fedOver, Eats, unfedBy}
+use Rattle.collector.specs.Lent.{over, Eats, unfedBy}
 use Rattle.collector.specs.declared.Fed.{Fed}
 use Rattle.collector.specs.declared.frame.Done.{Done}
 use Rattle.collector.specs.declared.lent.Ate.{Ate}
@@ -53,3 +54,18 @@ module _ (l : Link) (t : Slots) (store report area piece : List ℕ) where
           → (let w = heardOf (f .link .head) in Acted (acting w (contentOf w (take m store′)) (view t) area) (d .slots) report′ area′ × Kept (d .moved) t (d .slots))
           → Eats l t store report area piece (record { refused = f .refused; eaten = f .eaten; reported = true; moved = d .moved; link = f .link; slots = d .slots }) store′ report′ area′
       eats-frame d o q h = record { feeds = feeds (tells-frame (Frames.fedOver f store′) t report area o (rw q at (h .0))); kept = h .1 }
+
+-- slots that were judged sound
+pub fair-slots : (t : Slots) {b : Bool} → b ≡ passing (view t) → not b ≡ false → passing (view t) ≡ true
+fair-slots t {b} e n = sym e ∙ not-false b n
+
+-- a good frame's data lie in the store, and are at most 501 octets
+module _ (l : Link) (store piece : List ℕ) (f : Ran) (store′ : List ℕ) {m : ℕ} (g : Frames.fedOver f store′ ≡ feedOf (Frames.over l store) piece) (o : f .outcome ≡ Frame) (q : m ≡ lengthOf (f .link .head)) where
+  pub data-inside : length store ≡ 501 → m ≤ length store′
+  data-inside s = in-store (Frames.over l store) piece {f = Frames.fedOver f store′} s g o q
+
+  pub data-taken : length store ≡ 501 → m ≡ length (take m store′)
+  data-taken s = sym (length-take-le m store′ (data-inside s))
+
+  pub data-short : length (take m store′) ≤ 501
+  data-short = payload-fits m store′ (data-fits (Frames.over l store) piece {f = Frames.fedOver f store′} g o q)

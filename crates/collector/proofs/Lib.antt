@@ -2,6 +2,7 @@ pub mod Content
 pub mod Actions
 pub mod Answers
 pub mod Eaten
+pub mod Hushed
 pub mod Refusals
 pub mod Alike
 pub mod Reached

@@ -1,5 +1,4 @@
 use Rattle.collector.proofs.Content.{plain-put}
-use denote.Ref.{now}
 use borrow.Author.Needs.{needs}
 use Rattle.collector.proofs.frame.put_plain.Statement.{statement}
 use Rattle.collector.proofs.frame.put_plain.Tie as tie
@@ -15,4 +14,4 @@ put-plain-spec =
     (λ c κs. search needs)
     (λ c κs. search needs)
     (λ c. search needs)
-    (λ c v. let a = c .before .before .before .before .before .before .before .before .before .before .args in plain-put (a .w) (a .m) (now (a .a)) v (c .before .before .before .unsegmented .ensures) (c .before .before .put-by-tags .ensures)))
+    (λ c v. search (needs, plain-put)))
