@@ -48,20 +48,25 @@ module _ (s : List ℕ) (q n v : ℕ) (within : q ≤ length s) where
   abbrev B : ℕ → Type 0
   B x = ltb 0 x ≡ true → C x
 
+  broken : Broken s q n v → B 34
+  broken w _ = contents-broken refl w
+
+  fine : B 0
+  fine _ = contents-good refl
+
   first-breaks : q < length s → B (firstContent n v (oct s q))
   unfolding firstContent
   first-breaks here =
-      pick-cases B (eqb n 7) (λ e. pick-cases B (ltb 5 (oct s q)) (λ h _. contents-broken refl (unknown-set (eqb-true n 7 e) here (ltb-true 5 (oct s q) h))) (λ _ _. contents-good refl)) (λ _.
+      pick-cases B (eqb n 7) (λ e. pick-cases B (ltb 5 (oct s q)) (λ h. broken (unknown-set (eqb-true n 7 e) here (ltb-true 5 (oct s q) h))) (λ _. fine)) (λ _.
       pick-cases B (eqb n 8)
-      (λ e. pick-cases B (ltb 7 (oct s q)) (λ h _. contents-broken refl (unused-over (eqb-true n 8 e) here (ltb-true 7 (oct s q) h))) (λ _.
+      (λ e. pick-cases B (ltb 7 (oct s q)) (λ h. broken (unused-over (eqb-true n 8 e) here (ltb-true 7 (oct s q) h))) (λ _.
       pick-cases B (eqb v 1)
-      (λ d. pick-cases B (ltb 0 (oct s q)) (λ h _. contents-broken refl (unused-alone (eqb-true n 8 e) (eqb-true v 1 d) here (ltb-true 0 (oct s q) h))) (λ _ _. contents-good refl))
-      (λ _ _. contents-good refl))) (λ _.
+      (λ d. pick-cases B (ltb 0 (oct s q)) (λ h. broken (unused-alone (eqb-true n 8 e) (eqb-true v 1 d) here (ltb-true 0 (oct s q) h))) (λ _. fine)) (λ _. fine))) (λ _.
       pick-cases B (eqb (oct s q) 0)
       (λ z. pick-cases B (ltb 1 v)
-      (λ h. pick-cases B (eqb n 2) (λ e _. contents-broken refl (leading-zero (inl (eqb-true n 2 e)) (ltb-true 1 v h) here (eqb-true (oct s q) 0 z))) (λ _.
-      pick-cases B (eqb n 9) (λ e _. contents-broken refl (leading-zero (inr (eqb-true n 9 e)) (ltb-true 1 v h) here (eqb-true (oct s q) 0 z))) (λ _ _. contents-good refl)))
-      (λ _ _. contents-good refl)) (λ _ _. contents-good refl)))
+      (λ h. pick-cases B (eqb n 2) (λ e. broken (leading-zero (inl (eqb-true n 2 e)) (ltb-true 1 v h) here (eqb-true (oct s q) 0 z))) (λ _.
+      pick-cases B (eqb n 9) (λ e. broken (leading-zero (inr (eqb-true n 9 e)) (ltb-true 1 v h) here (eqb-true (oct s q) 0 z))) (λ _. fine)))
+      (λ _. fine)) (λ _. fine)))
 
   signed-says : n ≡ 3 → C (signedAt s q v)
   unfolding signedAt
@@ -87,7 +92,8 @@ unfolding contentsAt firstContent signedAt least
 broken-is s q n v low (leading-zero (inl e) two here z) = rw (e, ne-eqb v 0 (omega arith), lt-leb (length s) q here, z, lt-ltb 1 v two)
 broken-is s q n v low (leading-zero (inr e) two here z) = rw (e, ne-eqb v 0 (omega arith), lt-leb (length s) q here, z, lt-ltb 1 v two)
 broken-is s q n v low (sign-again e two next h) =
-    rw (e, ne-eqb v 0 (omega arith), lt-leb (length s) q (omega arith), le-ltb v 2 two, lt-leb (length s) (q + 1) next, so-sign (oct s q) (oct s (q + 1)) h, pick-none)
+    let sign : signBad (oct s q) (oct s (q + 1)) ≡ true = so-sign (oct s q) (oct s (q + 1)) h in
+    rw (e, ne-eqb v 0 (omega arith), lt-leb (length s) q (omega arith), le-ltb v 2 two, lt-leb (length s) (q + 1) next, sign, pick-none)
   where
     pick-none : _≡_ {A = ℕ} (pick (eqb (oct s q) 0) (pick (ltb 1 v) 0 0) 0) 0
     pick-none = by-test (eqb (oct s q) 0) (λ d. rw d (by-test (ltb 1 v) (λ f. rw f) (λ f. rw f))) (λ d. rw d)

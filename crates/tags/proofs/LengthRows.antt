@@ -81,18 +81,20 @@ length-says s os l p within five =
         pick-cases P (leb (length s) p) (λ h. length-missing refl refl (cut-first (leb-true (length s) p h))) (λ h0.
         let here : p < length s = leb-false (length s) p h0 in
         pick-cases P (ltb (oct s p) 5)
-        (λ h. length-longer refl refl (oct s p) 5 (p + 1) (one-octet here (omega (arith, ltb-true (oct s p) 5 h)) refl refl refl) (ltb-true (oct s p) 5 h)) (λ h1.
+        (λ h. let low : oct s p < 5 = ltb-true (oct s p) 5 h in length-longer refl refl (oct s p) 5 (p + 1) (one-octet here (omega arith) refl refl refl) low) (λ h1.
         pick-cases P (ltb (oct s p) 254)
-        (λ h. (length-next refl 5 (one-octet here (omega (arith, ltb-true (oct s p) 254 h)) refl refl refl) (ltb-false (oct s p) 5 h1), omega (arith, ltb-true (oct s p) 254 h), omega arith)) (λ h2.
+        (λ h. let top : oct s p < 254 = ltb-true (oct s p) 254 h in (length-next refl 5 (one-octet here (omega arith) refl refl refl) (ltb-false (oct s p) 5 h1), omega arith, omega arith)) (λ h2.
         pick-cases P (eqb (oct s p) 254) (λ h. two-says s os p here (eqb-true (oct s p) 254 h))
         (λ h. four-says s os p here (omega (arith, os p, ltb-false (oct s p) 254 h2, eqb-false (oct s p) 254 h))))))
 
 -- the length octets, where they are all there, and where not
-two-is : (s : List ℕ) (p : ℕ) (f : Field) → p + 2 < length s → oct s p ≡ 254 → pick (ltb (be16 s (p + 1)) 254) (Bad 32) (pick (ltb longest (be16 s (p + 1))) (Bad 33) (Is (be16 s (p + 1)) (p + 1 + 2))) ≡ f → lengthAt s p 5 ≡ f
+two-is : (s : List ℕ) (p : ℕ) (f : Field) → p + 2 < length s → oct s p ≡ 254
+    → pick (ltb (be16 s (p + 1)) 254) (Bad 32) (pick (ltb longest (be16 s (p + 1))) (Bad 33) (Is (be16 s (p + 1)) (p + 1 + 2))) ≡ f → lengthAt s p 5 ≡ f
 unfolding lengthAt twoAt
 two-is s p f room e d = rw (lt-leb (length s) p (omega arith), e, lt-leb (length s) (p + 1) (omega arith), lt-leb (length s) (p + 1 + 1) (omega arith)) d
 
-four-is : (s : List ℕ) (p : ℕ) (f : Field) → p + 4 < length s → oct s p ≡ 255 → pick (eqb (be16 s (p + 1)) 0) (Bad 32) (Bad 33) ≡ f → lengthAt s p 5 ≡ f
+four-is : (s : List ℕ) (p : ℕ) (f : Field) → p + 4 < length s → oct s p ≡ 255
+    → pick (eqb (be16 s (p + 1)) 0) (Bad 32) (Bad 33) ≡ f → lengthAt s p 5 ≡ f
 unfolding lengthAt fourAt
 four-is s p f room e d = rw (lt-leb (length s) p (omega arith), e, lt-leb (length s) (p + 1) (omega arith), le-ltb (length s - (p + 1)) 4 (omega arith)) d
 

@@ -72,7 +72,8 @@ module _ (s : List ℕ) (os : Octets s) (at : ℕ) where
       pick-cases P (ltb (length s - q) v) (λ h. thirty refl (no-context n p v q t (z .0) (z .1) (omega (arith, ltb-true (length s - q) v h)))) (λ _. tt)))
       (λ x z. length-given p x (inr (n, t)) z)))
 
-  contents-given : (n p v q x : ℕ) (u : Tag) → TypeTag s at n p → LengthTo s (b % 8) p v q → least n ≤ v → v ≤ most n → contentsAt s q n v ≡ x → P u → ContentsSay s q n v x → P (pick (ltb 0 x) (Refused x) u)
+  contents-given : (n p v q x : ℕ) (u : Tag) → TypeTag s at n p → LengthTo s (b % 8) p v q → least n ≤ v → v ≤ most n → contentsAt s q n v ≡ x → P u → ContentsSay s q n v x
+      → P (pick (ltb 0 x) (Refused x) u)
   contents-given n p v q x u t to low high d ok (contents-good e) = rw e ok
   contents-given n p v q x u t to low high d ok (contents-missing e h) =
       rw e (thirty refl (no-contents n p v q t to low high (λ w. omega (arith, broken-is s q n v low w)) h))
@@ -87,7 +88,9 @@ module _ (s : List ℕ) (os : Octets s) (at : ℕ) where
       and-then P (LengthSays s (b % 8) p) (lengthAt s p (b % 8)) (length-says s os (b % 8) p (number-within s at n p here w) (a .bits)) (λ v q z.
       pick-cases P (ltb v (least n)) (λ h. thirty-three refl (wrong-length n p v q t (z .0) (inl (ltb-true v (least n) h)))) (λ h2.
       pick-cases P (ltb (most n) v) (λ h. thirty-three refl (wrong-length n p v q t (z .0) (inr (ltb-true (most n) v h)))) (λ h3.
-      contents-given n p v q (contentsAt s q n v) (Item 0 n 0 q v) t (z .0) (ltb-false v (least n) h2) (ltb-false (most n) v h3) refl tt (contents-say s q n v (z .2)))))
+      let low : least n ≤ v = ltb-false v (least n) h2 in
+      let high : v ≤ most n = ltb-false (most n) v h3 in
+      contents-given n p v q (contentsAt s q n v) (Item 0 n 0 q v) t (z .0) low high refl tt (contents-say s q n v (z .2)))))
       (λ x z. length-given p x (inl (n, t)) z)))
     where
       above : 12 < n → NumberTo s at n p → (numberBits b ≡ 15) ⊎ (numberBits b ≤ 12) → Given 31 s at
@@ -96,7 +99,8 @@ module _ (s : List ℕ) (os : Octets s) (at : ℕ) where
       above h (number-next f next low high e d) _ = thirty-one refl (next-above next (a .class) f (a .bits) low high)
 
       typed : n ≤ 12 → (n ≡ 1 → ⊥) → NumberTo s at n p → TypeTag s at n p
-      typed known other (number-inside m e d) = record { here = here; class = a .class; number = sym e; known = known; other = other; bits = a .bits; after = d }
+      typed known other (number-inside m e d) =
+          record { here = here; class = a .class; number = sym e; known = known; other = other; bits = a .bits; after = d }
       typed known other (number-next f next low high e d) = absurd (omega arith)
 
   first-given : at < length s → (x : ℕ) (u : Tag) → (Fine b → P u) → FirstSays b x → P (pick (ltb 0 x) (Refused x) u)
@@ -118,7 +122,8 @@ module _ (s : List ℕ) (os : Octets s) (at : ℕ) where
       (λ x z. number-given f x z)) (first-says b (os at)))
 
   -- ---- and what a row says is refused so
-  past : at < length s → Fine b → headAt s at ≡ andThen (numberAt s at) (λ n p. pick (eqb (b % 16 / 8) 1) (contextAt s (b % 8) n p) (applicationAt s (b % 8) n p))
+  past : at < length s → Fine b
+      → headAt s at ≡ andThen (numberAt s at) (λ n p. pick (eqb (b % 16 / 8) 1) (contextAt s (b % 8) n p) (applicationAt s (b % 8) n p))
   unfolding headAt
   past here f = rw (lt-leb (length s) at here, first-none b f)
 
@@ -135,12 +140,17 @@ module _ (s : List ℕ) (os : Octets s) (at : ℕ) where
   context-is n p t =
       past (t .here) (inl (t .class)) ∙ rw (number-is s at n p (t .here) (t .number), t .class, ne-eqb (b % 8) 6 (omega arith), ne-eqb (b % 8) 7 (omega arith))
 
-  type-is : (n p : ℕ) → TypeTag s at n p
-      → headAt s at ≡ andThen (lengthAt s p (b % 8)) (λ v q. pick (ltb v (least n)) (Refused 33) (pick (ltb (most n) v) (Refused 33) (pick (ltb 0 (contentsAt s q n v)) (Refused (contentsAt s q n v)) (Item 0 n 0 q v))))
+  -- a type's length, and then its contents
+  abbrev byType : ℕ → ℕ → ℕ → Tag
+  byType n v q =
+      pick (ltb v (least n)) (Refused 33) (pick (ltb (most n) v) (Refused 33) (pick (ltb 0 (contentsAt s q n v)) (Refused (contentsAt s q n v)) (Item 0 n 0 q v)))
+
+  type-is : (n p : ℕ) → TypeTag s at n p → headAt s at ≡ andThen (lengthAt s p (b % 8)) (byType n)
   unfolding applicationAt
   type-is n p t =
       let f : Plain b = record { class = t .class; bits = t .bits; number = inr (omega arith); boolean = λ one. absurd (t .other (omega arith)) } in
-      past (t .here) (inr f) ∙ rw (number-is s at n p (t .here) (number-inside (omega arith) (sym (t .number)) (t .after)), t .class, le-ltb 12 n (t .known), ne-eqb n 1 (t .other))
+      let w : NumberTo s at n p = number-inside (omega arith) (sym (t .number)) (t .after) in
+      past (t .here) (inr f) ∙ rw (number-is s at n p (t .here) w, t .class, le-ltb 12 n (t .known), ne-eqb n 1 (t .other))
 
   length-refused : (p x : ℕ) → Tagged s at p → LengthBad s (b % 8) p x → headAt s at ≡ Refused x
   length-refused p x (inl (n, t)) w = type-is n p t ∙ rw (length-bad s os (b % 8) p x w)
@@ -161,7 +171,9 @@ module _ (s : List ℕ) (os : Octets s) (at : ℕ) where
   early-is (no-number end n f) = number-refused (omega arith) (fine-of n f) 30 (number-missing refl n end)
   early-is (no-length p t five c) = length-refused p 30 t (length-missing refl five c)
   early-is (no-contents n p v q t to low high none short) =
-      type-is n p t ∙ rw (length-is s (b % 8) p v q to (omega (arith, most-longest n)), le-ltb v (least n) low, le-ltb (most n) v high, missing-is s q n v (type-within n p v q t to) none short)
+      let small : v ≤ longest = omega (arith, most-longest n) in
+      let early : contentsAt s q n v ≡ 30 = missing-is s q n v (type-within n p v q t to) none short in
+      type-is n p t ∙ rw (length-is s (b % 8) p v q to small, le-ltb v (least n) low, le-ltb (most n) v high, early)
   early-is (no-context n p v q t to small short) =
       let within : q ≤ length s = length-within s (b % 8) p v q (number-within s at n p (t .here) (t .number)) to in
       context-is n p t ∙ rw (length-is s (b % 8) p v q to small, le-ltb (length s) q within, lt-ltb (length s - q) v (omega arith))
@@ -173,7 +185,8 @@ module _ (s : List ℕ) (os : Octets s) (at : ℕ) where
   wrong-number-is (next-above next app n five low high) =
       let here : at < length s = omega arith in
       let f : Plain b = record { class = app; bits = five; number = inl n; boolean = λ one. absurd (omega arith) } in
-      past here (inr f) ∙ rw (number-is s at (oct s (at + 1)) (at + 2) here (number-next n next low high refl refl), app, lt-ltb 12 (oct s (at + 1)) (omega arith))
+      let w : NumberTo s at (oct s (at + 1)) (at + 2) = number-next n next low high refl refl in
+      past here (inr f) ∙ rw (number-is s at (oct s (at + 1)) (at + 2) here w, app, lt-ltb 12 (oct s (at + 1)) (omega arith))
 
   not-shortest-is : NotShortest s at → headAt s at ≡ Refused 32
   unfolding firstRule
@@ -184,7 +197,7 @@ module _ (s : List ℕ) (os : Octets s) (at : ℕ) where
   not-shortest-is (boolean-over here app one two five) = first-refused here 32 (omega arith) (rw (app, one, le-ltb 5 (b % 8) five, lt-ltb 1 (b % 8) two))
 
   -- a length that is not over 16,384, and wrong for its type
-  type-wrong : (n p v q : ℕ) → TypeTag s at n p → LengthTo s (b % 8) p v q → v ≤ longest → pick (ltb v (least n)) (Refused 33) (pick (ltb (most n) v) (Refused 33) (pick (ltb 0 (contentsAt s q n v)) (Refused (contentsAt s q n v)) (Item 0 n 0 q v))) ≡ Refused 33 → headAt s at ≡ Refused 33
+  type-wrong : (n p v q : ℕ) → TypeTag s at n p → LengthTo s (b % 8) p v q → v ≤ longest → byType n v q ≡ Refused 33 → headAt s at ≡ Refused 33
   type-wrong n p v q t to small e = type-is n p t ∙ rw (length-is s (b % 8) p v q to small) e
 
   wrong-length-is : WrongLength s at → headAt s at ≡ Refused 33
@@ -193,7 +206,7 @@ module _ (s : List ℕ) (os : Octets s) (at : ℕ) where
       by-test (ltb longest v) (λ h. length-refused p 33 (inl (n, t)) (length-over refl v q to (ltb-true longest v h))) (λ h.
       type-wrong n p v q t to (ltb-false longest v h) (by wrong))
     where
-      by : (v < least n) ⊎ (most n < v) → pick (ltb v (least n)) (Refused 33) (pick (ltb (most n) v) (Refused 33) (pick (ltb 0 (contentsAt s q n v)) (Refused (contentsAt s q n v)) (Item 0 n 0 q v))) ≡ Refused 33
+      by : (v < least n) ⊎ (most n < v) → byType n v q ≡ Refused 33
       by (inl low) = rw (lt-ltb v (least n) low)
       by (inr high) = by-test (ltb v (least n)) (λ e. rw e) (λ e. rw (e, lt-ltb (most n) v high))
 

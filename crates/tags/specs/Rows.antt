@@ -28,7 +28,8 @@ BitsFine b = IsContext b ⊎ (lengthBits b ≤ 5)
 -- ---- "Number 15: the next octet holds 15 to 254." n is the number of the tag at a place, p the place after it
 pub data NumberTo (s : List ℕ) (at n p : ℕ) : Type 0 where
   number-inside : numberBits (oct s at) ≤ 14 → n ≡ numberBits (oct s at) → p ≡ at + 1 → NumberTo s at n p
-  number-next : numberBits (oct s at) ≡ 15 → at + 1 < length s → 15 ≤ oct s (at + 1) → oct s (at + 1) ≤ 254 → n ≡ oct s (at + 1) → p ≡ at + 2 → NumberTo s at n p
+  number-next : numberBits (oct s at) ≡ 15 → at + 1 < length s → 15 ≤ oct s (at + 1) → oct s (at + 1) ≤ 254 → n ≡ oct s (at + 1) → p ≡ at + 2
+      → NumberTo s at n p
 
 -- ---- "Length 5: the next octet holds 5 to 253, or 254 and two octets (254 to 65535), or 255 and four."
 -- the length octets at p say v, in a form that is for low and more; q is the place after them
@@ -86,19 +87,22 @@ pub data Early (s : List ℕ) (at : ℕ) : Type 0 where
   no-octet : length s ≤ at → Early s at
   no-number : at + 1 ≡ length s → numberBits (oct s at) ≡ 15 → BitsFine (oct s at) → Early s at
   no-length : (p : ℕ) → Tagged s at p → lengthBits (oct s at) ≡ 5 → LengthCut s p → Early s at
-  no-contents : (n p v q : ℕ) → TypeTag s at n p → LengthTo s (lengthBits (oct s at)) p v q → least n ≤ v → v ≤ most n → (Broken s q n v → ⊥) → length s < q + v → Early s at
+  no-contents : (n p v q : ℕ) → TypeTag s at n p → LengthTo s (lengthBits (oct s at)) p v q
+      → least n ≤ v → v ≤ most n → (Broken s q n v → ⊥) → length s < q + v → Early s at
   no-context : (n p v q : ℕ) → ContextTag s at n p → LengthTo s (lengthBits (oct s at)) p v q → v ≤ longest → length s < q + v → Early s at
 
 -- ---- 31: "extended number below 15 or 255; application number above 12". "An extended number .. is judged at its second octet"
 pub data WrongNumber (s : List ℕ) (at : ℕ) : Type 0 where
   next-wrong : at + 1 < length s → numberBits (oct s at) ≡ 15 → BitsFine (oct s at) → (oct s (at + 1) < 15) ⊎ (oct s (at + 1) ≡ 255) → WrongNumber s at
   type-above : at < length s → IsApplication (oct s at) → 12 < numberBits (oct s at) → numberBits (oct s at) < 15 → WrongNumber s at
-  next-above : at + 1 < length s → IsApplication (oct s at) → numberBits (oct s at) ≡ 15 → lengthBits (oct s at) ≤ 5 → 15 ≤ oct s (at + 1) → oct s (at + 1) ≤ 254 → WrongNumber s at
+  next-above : at + 1 < length s → IsApplication (oct s at) → numberBits (oct s at) ≡ 15 → lengthBits (oct s at) ≤ 5
+      → 15 ≤ oct s (at + 1) → oct s (at + 1) ≤ 254 → WrongNumber s at
 
 -- ---- 32: "not shortest; application 6 or 7; boolean 2 to 5". 13 and 14 are 31 before, within one octet "by row order"
 pub data NotShortest (s : List ℕ) (at : ℕ) : Type 0 where
   longer-form : (p v low q : ℕ) → Tagged s at p → lengthBits (oct s at) ≡ 5 → Spelled s p v low q → v < low → NotShortest s at
-  six-seven : at < length s → IsApplication (oct s at) → (numberBits (oct s at) ≤ 12) ⊎ (numberBits (oct s at) ≡ 15) → 6 ≤ lengthBits (oct s at) → NotShortest s at
+  six-seven : at < length s → IsApplication (oct s at) → (numberBits (oct s at) ≤ 12) ⊎ (numberBits (oct s at) ≡ 15) → 6 ≤ lengthBits (oct s at)
+      → NotShortest s at
   boolean-over : at < length s → IsApplication (oct s at) → numberBits (oct s at) ≡ 1 → 2 ≤ lengthBits (oct s at) → lengthBits (oct s at) ≤ 5 → NotShortest s at
 
 -- ---- 33: "contents length wrong for its type, or over 16,384"; "an extended length, with its 33, at its last" octet
