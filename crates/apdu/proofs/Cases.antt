@@ -1,5 +1,4 @@
 -- The place of the parameters by the kind and SEG, for the function that goes by these.
-use Prim.Native.Nat.{ℕ}
 use mathlib.Core.Path.{_≡_, sym}
 use mathlib.Core.Bool.{true, false}
 use Rattle.octets.specs.Choice.{given-true, given-false}

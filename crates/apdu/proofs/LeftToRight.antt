@@ -21,7 +21,7 @@ use Rattle.apdu.specs.declared.Answer.the-variants.{Good, Refused}
 use Rattle.apdu.specs.Reading.{readApdu}
 use Rattle.apdu.specs.Layout.{header, firstOctet, flag}
 use Rattle.apdu.specs.Valid.{Accepted}
-use Rattle.apdu.specs.Rows.{BadFirst, HighType, ZeroBitSet, WindowAt, SizeOrWindow, LeftOver, EndsEarly}
+use Rattle.apdu.specs.Rows.{ZeroBitSet, WindowAt, SizeOrWindow, LeftOver, EndsEarly}
 use Rattle.apdu.proofs.Sound.{none-follows}
 use Rattle.apdu.proofs.Exact.{refusal-reason, reason-cases, accepted-good, good-accepted}
 use Rattle.apdu.proofs.Typed.{as-none}
@@ -135,9 +135,12 @@ module _ (s : List ℕ) (some : 0 < length s) (e : readApdu s ≡ Refused 20) wh
   no-over : LeftOver more → ⊥
   no-over o =
       ⊎-elim
-      (λ q. let g = accepted-good s (record { pdu = o .pdu; parameters = [] }, (o .rules, none-follows (o .pdu) [] refl), rw q (rw (append-nil (header (o .pdu))) refl)) in
-      let z = g .1 in impossible (cc))
-      (λ q. other 24 (left-over-refused s (record { pdu = o .pdu; alone = o .alone; rules = o .rules; next = o .next; rest = q .0; octets = q .1 })) (λ z. omega arith))
+      (λ q.
+      let whole : Accepted s = (record { pdu = o .pdu; parameters = [] }, (o .rules, none-follows (o .pdu) [] refl), rw q (rw (append-nil (header (o .pdu))) refl)) in
+      let z = accepted-good s whole .1 in impossible (cc))
+      (λ q.
+      let over : LeftOver s = record { pdu = o .pdu; alone = o .alone; rules = o .rules; next = o .next; rest = q .0; octets = q .1 } in
+      other 24 (left-over-refused s over) (λ z. omega arith))
       (unsnoc (header (o .pdu)) s (o .rest) (o .next) 1 (o .octets))
 
   no-high : 8 ≤ oct more 0 / 16 → ⊥
@@ -173,7 +176,8 @@ not-accepted s n e a = let g = accepted-good s a in let z = g .1 in impossible (
 
 pub ends-early : (s : List ℕ) → readApdu s ≡ Refused 20 → EndsEarly s
 ends-early [] e =
-    record { unfinished = not-accepted [] 20 e; rest = 16 ∷ 1 ∷ []; octets = octets-more 16 (1 ∷ []) (lit< tt) (octets-more 1 [] (lit< tt) octets-none); finished = begun }
+    let two : Octets (16 ∷ 1 ∷ []) = octets-more 16 (1 ∷ []) (lit< tt) (octets-more 1 [] (lit< tt) octets-none) in
+    record { unfinished = not-accepted [] 20 e; rest = 16 ∷ 1 ∷ []; octets = two; finished = begun }
 ends-early (x ∷ s) e =
     let r = finished 6 (x ∷ s) (omega arith) (omega arith) e in
     record { unfinished = not-accepted (x ∷ s) 20 e; rest = r .0; octets = r .1; finished = r .2 }

@@ -1,5 +1,5 @@
 -- Octets that have a row's reason are refused with its number: rows 21 to 24.
-use Prim.Native.Nat.{ℕ, _+_, _/_, _%_, _≤_, _<_}
+use Prim.Native.Nat.{ℕ, _+_, _/_, _%_, _<_}
 use native.Mathlib.Omega.{arith}
 use mathlib.Core.Path.{_≡_, refl, _∙_}
 use mathlib.Core.Logic.{_⊎_, inl, inr}
@@ -8,14 +8,14 @@ use mathlib.Core.List.{List, _∷_, _++_}
 use lib.ListN.{length}
 use lib.Dec.{ltb, eqb}
 use borrow.Author.Tests.{lt-ltb, le-ltb, lt-leb, eq-eqb, ne-eqb, ltb-true}
-use Rattle.octets.specs.Choice.{given, pick-same, by-test}
+use Rattle.octets.specs.Choice.{pick-same, by-test}
 use Rattle.octets.specs.Reading.{oct}
 use Rattle.apdu.specs.declared.Pdu.{Pdu}
 use Rattle.apdu.specs.declared.Pdu.the-variants.{Request, Unconfirmed, SimpleAck, ComplexAck, SegmentAck, Error, Reject, Abort}
 use Rattle.apdu.specs.declared.Answer.the-variants.{Refused}
 use Rattle.apdu.specs.declared.kinds.Tail.the-variants.{Broken}
-use Rattle.apdu.specs.Reading.{readApdu, readTail, readRequest, readUnconfirmed, readSimpleAck, readComplexAck, readSegmentAck, readError, readReject, readAbort, judgeWindow, bit3, morWithoutSeg}
-use Rattle.apdu.specs.Layout.{flag, firstOctet, header}
+use Rattle.apdu.specs.Reading.{readApdu, readTail, readRequest, readUnconfirmed, readSimpleAck, readComplexAck, readSegmentAck, readError, readReject, readAbort, judgeWindow, morWithoutSeg}
+use Rattle.apdu.specs.Layout.{firstOctet, header}
 use Rattle.apdu.specs.Valid.{Rules}
 use Rattle.apdu.specs.Rows.{Off, Bit, ZeroBit, BadFirst, HighType, ZeroBitSet, WindowAt, SizeOrWindow, Alone, LeftOver}
 use Rattle.apdu.proofs.FirstOctet.{parts-of, below3, below2, below1, below0}

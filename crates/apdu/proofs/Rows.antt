@@ -1,17 +1,17 @@
 -- Rows 20 to 24: a number is given exactly when its row's words hold, and of the six outcomes exactly one holds.
-use Prim.Native.Nat.{ℕ, _/_, _≤_}
+use Prim.Native.Nat.{ℕ}
 use native.Mathlib.Omega.{arith}
-use mathlib.Core.Path.{_≡_, refl, sym, _∙_}
+use mathlib.Core.Path.{_≡_, refl, sym}
 use mathlib.Core.Logic.{_↔_}
 use mathlib.Core.List.{List}
-use Rattle.octets.specs.Reading.{oct, Octets}
+use Rattle.octets.specs.Reading.{Octets}
 use Rattle.apdu.specs.declared.Answer.{Answer}
 use Rattle.apdu.specs.declared.Answer.the-variants.{Good, Refused}
 use Rattle.apdu.specs.Reading.{readApdu}
 use Rattle.apdu.specs.Rows.{EndsEarly, HighType, ZeroBitSet, SizeOrWindow, LeftOver, Outcome}
 use Rattle.apdu.proofs.Exact.{refusal-reason, reason-cases, accepted-good, good-accepted}
 use Rattle.apdu.proofs.Offences.{high-refused, zero-bit-refused, size-window-refused, left-over-refused}
-use Rattle.apdu.proofs.LeftToRight.{either, ends-early, early-refused}
+use Rattle.apdu.proofs.LeftToRight.{ends-early, early-refused}
 
 module _ (s : List ℕ) where
   pub row-20 : (readApdu s ≡ Refused 20) ↔ EndsEarly s
