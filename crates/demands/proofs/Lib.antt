@@ -8,3 +8,5 @@ pub mod One
 pub mod Two
 pub mod Three
 pub mod Worked
+pub mod Completed
+pub mod CompletedRun
