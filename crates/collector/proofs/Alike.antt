@@ -17,7 +17,7 @@ use Rattle.rebuild.specs.declared.Key.{Key}
 use Rattle.rebuild.proofs.Seen.{view-one, view-unview}
 use Rattle.reports.specs.Layout.{reportSize}
 use Rattle.collector.specs.Calls.{passing, sound, box, written, saidSo, slotsOf, Answered, feedRefusal, feeding, Feeds, silenceRefusal, stilling, Stills, Forgets}
-use Rattle.collector.specs.Offering.{End, told, Kept, calls, Called}
+use Rattle.collector.specs.Offering.{End, told, WithArea, calls, Called}
 use Rattle.collector.specs.declared.Collector.{Collector}
 use Rattle.collector.specs.declared.Fed.{Fed}
 use Rattle.collector.specs.declared.Fell.{Fell}
@@ -69,7 +69,7 @@ stilling-box c report area k = rw (eq-eqb (length report) reportSize k) (by-test
 abbrev pub Boxed : Type 0
 Boxed = Receiver × List (Messages.Slot Key) × List ℕ
 
-abbrev pub seen : Kept → Boxed
+abbrev pub seen : WithArea → Boxed
 seen s = (s .0 .receiver, slotsOf (s .0), s .1)
 
 -- every call is the box's
@@ -96,14 +96,14 @@ called =
     }
 
 -- ---- and every call of the box can be made: a report area of its size
-blank : List ℕ
+pub blank : List ℕ
 blank = replicate reportSize 0
 
-sixteen : length blank ≡ reportSize
+pub sixteen : length blank ≡ reportSize
 unfolding blank
 sixteen = refl
 
-abbrev put : Boxed → Kept
+abbrev put : Boxed → WithArea
 put x = (record { receiver = x .0; slots = unview (x .1) }, x .2)
 
 seen-put : (x : Boxed) → x ≡ seen (put x)
@@ -175,4 +175,5 @@ pub called-by : {p : ℕ} {c : Collector} {area : List ℕ} {run : Run} {e : End
 called-by {p} {c} {area} {run} {e} o =
     let w = carried calling {u = (c, area)} refl o in
     let q : (e .state, e .slots, e .area) ≡ seen (w .0) = w .2 in
-    (w .0 .0, subst (λ (a : List ℕ). Offer (Made calls) p (c, area) run (e .reports) (w .0 .0, a)) (sym (ap (λ (x : Boxed). x .2) q)) (w .1), sym (ap (λ (x : Boxed). x .0) q), sym (ap (λ (x : Boxed). x .1) q))
+    let left = subst (λ (a : List ℕ). Offer (Made calls) p (c, area) run (e .reports) (w .0 .0, a)) (sym (ap (λ (x : Boxed). x .2) q)) (w .1) in
+    (w .0 .0, left, sym (ap (λ (x : Boxed). x .0) q), sym (ap (λ (x : Boxed). x .1) q))

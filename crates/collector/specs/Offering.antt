@@ -33,11 +33,11 @@ told true report = some report
 told false report = none
 
 -- ---- the calls, each with any answer that its promise allows: a state is the collector with the message area
-abbrev pub Kept : Type 0
-Kept = Collector × List ℕ
+abbrev pub WithArea : Type 0
+WithArea = Collector × List ℕ
 
 -- a piece, lent a report area of 16 octets, whatever stands in it
-pub record Feeding (s : Kept) (piece : List ℕ) (eaten : ℕ) (said : Option (List ℕ)) (t : Kept) : Type 0 where
+pub record Feeding (s : WithArea) (piece : List ℕ) (eaten : ℕ) (said : Option (List ℕ)) (t : WithArea) : Type 0 where
   pub report : List ℕ
   pub report′ : List ℕ
   pub answer : Fed
@@ -48,7 +48,7 @@ pub record Feeding (s : Kept) (piece : List ℕ) (eaten : ℕ) (said : Option (L
   pub leaves : t .0 ≡ answer .state
 
 -- a silence, lent such a report area; the message area is not lent
-pub record Stilling (s : Kept) (said : Option (List ℕ)) (t : Kept) : Type 0 where
+pub record Stilling (s : WithArea) (said : Option (List ℕ)) (t : WithArea) : Type 0 where
   pub report : List ℕ
   pub report′ : List ℕ
   pub answer : Fell
@@ -59,13 +59,13 @@ pub record Stilling (s : Kept) (said : Option (List ℕ)) (t : Kept) : Type 0 wh
   pub area : t .1 ≡ s .1
 
 -- a forget order: nothing is lent
-pub record Forgetting (i : ℕ) (s t : Kept) : Type 0 where
+pub record Forgetting (i : ℕ) (s t : WithArea) : Type 0 where
   pub answer : Forgot
   pub promise : Forgets (s .0) i answer
   pub leaves : t .0 ≡ answer .state
   pub area : t .1 ≡ s .1
 
-abbrev pub calls : Calls Kept (List ℕ)
+abbrev pub calls : Calls WithArea (List ℕ)
 calls = record { Feeds = Feeding; Stills = Stilling; Forgets = Forgetting }
 
 -- "Cut the octets anywhere, offer the rest again after each report": from a state and a message area, with a run left to offer whose trunk goes on

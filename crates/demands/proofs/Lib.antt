@@ -14,3 +14,5 @@ pub mod HeaderRows
 pub mod SegmentRows
 pub mod TagRows
 pub mod StateOctets
+pub mod Completed
+pub mod CompletedRun

@@ -19,7 +19,7 @@ use Rattle.collector.specs.Calls as Calls
 use Rattle.collector.specs.Calls.{slotsOf, saidSo, feedRefusal, feeding, silenceRefusal, stilling}
 use Rattle.collector.specs.Frame.{bacnet}
 use Rattle.collector.specs.Offering as Collecting
-use Rattle.collector.specs.Offering.{Passes, End, told, Kept}
+use Rattle.collector.specs.Offering.{Passes, End, told, WithArea}
 use Rattle.collector.specs.declared.Collector.{Collector}
 use Rattle.collector.specs.declared.Fed.{Fed}
 use Rattle.collector.specs.declared.Fell.{Fell}
@@ -99,7 +99,7 @@ told-flag : (reported : ℕ) (b : Bool) (x : List ℕ) → reported ≡ flag b �
 told-flag reported true x e = rw e
 told-flag reported false x e = rw e
 
-abbrev HoldsIt : Areas → Kept → Type 0
+abbrev HoldsIt : Areas → WithArea → Type 0
 HoldsIt s u = Loads (s .0) (u .0) × (u .1 ≡ s .1)
 
 linked : Carries calls Collecting.calls HoldsIt

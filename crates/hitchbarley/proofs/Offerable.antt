@@ -4,7 +4,7 @@ use mathlib.Core.Path.{_≡_, refl, sym, ap, subst, _∙_}
 use mathlib.Core.Bool.{true}
 use mathlib.Core.List.{List, []}
 use mathlib.Core.Option.{Option, none, some}
-use lib.ListN.{length, replicate, length-map}
+use lib.ListN.{length, length-map}
 use borrow.Author.Tests.{eq-eqb, eqb-true}
 use Rattle.octets.specs.Choice.{both-left}
 use Rattle.runs.specs.Run.{Run, ends}
@@ -17,7 +17,7 @@ use Rattle.rebuild.proofs.Seen.{view-unview, unview-view}
 use Rattle.collector.specs.Calls.{box, slotsOf, saidSo, written, Answered, feedRefusal, feeding, silenceRefusal, stilling}
 use Rattle.collector.specs.Offering.{Passes}
 use Rattle.collector.specs.declared.Collector.{Collector}
-use Rattle.collector.proofs.Alike.{Boxed, feeding-box, stilling-box}
+use Rattle.collector.proofs.Alike.{Boxed, blank, sixteen, feeding-box, stilling-box}
 use Rattle.collector.proofs.Reached.{Fair, FairAt, FairAnswer, feed-fair, still-fair, free-fair}
 use Rattle.collector.proofs.Demand.{boxed-way}
 use Rattle.records.specs.Flag.{flag}
@@ -28,14 +28,6 @@ use Rattle.state.proofs.Exact.{shaped-loads}
 use Rattle.hitchbarley.specs.Trunk.{Left, stateBy, stateOf, passed, bar, inside, feedBar, feedLeft, silenceBar, silenceLeft, forgetNumberOf, forgotten, forgetLeft, Feeds, Stills, Forgets}
 use Rattle.hitchbarley.specs.Offering.{Heard, toldBy, Areas, calls, Linked}
 use Rattle.hitchbarley.proofs.Demand.{inside-is}
-
--- a report area of 16 octets
-blank : List ℕ
-blank = replicate 16 0
-
-sixteen : length blank ≡ 16
-unfolding blank
-sixteen = refl
 
 told-back : (x : Option (List ℕ)) (report : List ℕ) → x ≡ toldBy (flag (saidSo x)) (written x report)
 told-back none report = refl
