@@ -1,6 +1,6 @@
 -- A completed message as it is reported: one walk over the run in front of its last place carries slots, area, the history and what is heard of it; the last
 -- place is judged by itself.
-use Prim.Native.Nat.{ℕ, _+_, _-_, _*_, _/_, _≤_, _<_}
+use Prim.Native.Nat.{ℕ, _+_, _-_, _*_, _≤_, _<_}
 use native.Mathlib.Omega.{arith}
 use mathlib.Core.Path.{_≡_, refl, sym, ap, subst, _∙_}
 use mathlib.Core.Logic.{_⊎_, inl, inr}
@@ -30,7 +30,6 @@ use Rattle.apdu.specs.declared.Answer.the-variants.{Good, Refused}
 use Rattle.items.specs.Reading as Items
 use Rattle.items.specs.Reading.{itemsOf, counted}
 use Rattle.items.specs.Reading.Out.{good, bad}
-use Rattle.items.specs.declared.Tally.{Tally}
 use Rattle.messages.specs.Slots.{Segment, Slot, Box, boxed, room, part, slotAt}
 use Rattle.messages.specs.Rows as Rows
 use Rattle.messages.specs.Rows.{Answer, rebuild}
@@ -46,7 +45,7 @@ use Rattle.collector.specs.Frame.{Content, contentOf, npduContent, apduContent,
 use Rattle.collector.specs.Frame.{plainAt, plainReport, byTags, segmentReport, answeredReport, answeredAt, bacnet}
 use Rattle.collector.specs.Frame.Content.{other, refuses, network, message}
 use Rattle.collector.specs.Calls.{slotsOf}
-use Rattle.collector.specs.Offering.{Passes, End, Called}
+use Rattle.collector.specs.Offering.{Passes, End}
 use Rattle.collector.specs.declared.Collector.{Collector}
 use Rattle.collector.proofs.Demand as Collecting
 use Rattle.hitchbarley.proofs.Demand.{octets-demand3}
