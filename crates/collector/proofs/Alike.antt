@@ -16,7 +16,7 @@ use Rattle.rebuild.specs.View.{keys, unview}
 use Rattle.rebuild.specs.declared.Key.{Key}
 use Rattle.rebuild.proofs.Seen.{view-one, view-unview}
 use Rattle.reports.specs.Layout.{reportSize}
-use Rattle.collector.specs.Calls.{passing, sound, box, written, saidSo, slotsOf, Answered, feedRefusal, feeding, Feeds, silenceRefusal, stilling, Stills, Forgets}
+use Rattle.collector.specs.Calls.{passing, sound, box, written, saidSo, slotsOf, Answered, feedRefusal, feeding, Tells, Feeds, silenceRefusal, stilling, Falls, Stills, Forgets}
 use Rattle.collector.specs.Offering.{End, told, WithArea, calls, Called}
 use Rattle.collector.specs.declared.Collector.{Collector}
 use Rattle.collector.specs.declared.Fed.{Fed}
@@ -95,7 +95,29 @@ called =
       forgets = λ s t x i e h. (seen t, rw (e, h .leaves, h .area, h .promise .receiver, h .promise .slots), refl);
     }
 
--- ---- and every call of the box can be made: a report area of its size
+-- ---- each promise allows an answer: the state that a call leaves, and the answer by it
+abbrev pub stateOf : Answered → Collector
+stateOf d = record { receiver = d .state; slots = unview (d .slots) }
+
+pub tells : (n : ℕ) (d : Answered) (report : List ℕ)
+    → Tells n d report (record { refused = n; eaten = d .eaten; reported = saidSo (d .said); state = stateOf d }) (written (d .said) report) (d .area)
+tells n d report = record { refused = refl; eaten = refl; reported = refl; receiver = refl; slots = view-unview (d .slots); reportAfter = refl; areaAfter = refl }
+
+pub falls : (n : ℕ) (d : Answered) (report : List ℕ)
+    → Falls n d report (record { refused = n; reported = saidSo (d .said); state = stateOf d }) (written (d .said) report)
+falls n d report = record { refused = refl; reported = refl; receiver = refl; slots = view-unview (d .slots); reportAfter = refl }
+
+abbrev pub forgotBy : Collector → ℕ → Forgot
+forgotBy c i =
+    record {
+      number = pick (sound (c .receiver) (slotsOf c)) (forgetNumber keys i (slotsOf c)) 59;
+      state = record { receiver = c .receiver; slots = unview (box .free i (c .receiver) (slotsOf c)) };
+    }
+
+pub forgets : (c : Collector) (i : ℕ) → Forgets c i (forgotBy c i)
+forgets c i = record { number = refl; receiver = refl; slots = view-unview (box .free i (c .receiver) (slotsOf c)) }
+
+-- ---- so every call of the box can be made: a report area of its size
 pub blank : List ℕ
 blank = replicate reportSize 0
 
@@ -103,65 +125,58 @@ pub sixteen : length blank ≡ reportSize
 unfolding blank
 sixteen = refl
 
-abbrev put : Boxed → WithArea
-put x = (record { receiver = x .0; slots = unview (x .1) }, x .2)
-
-seen-put : (x : Boxed) → x ≡ seen (put x)
+-- what the box leaves, as it is seen in the state that the call leaves
+seen-put : (x : Boxed) → x ≡ seen (record { receiver = x .0; slots = unview (x .1) }, x .2)
 seen-put x = rw (view-unview (x .1))
+
+answer-seen : (n : ℕ) (said : Option (List ℕ)) (y : Boxed) (d : Answered) → answer n said (y .0) (y .1) (y .2) ≡ d → y ≡ seen (stateOf d, d .area)
+answer-seen n said y d e =
+    let q : y ≡ (d .state, d .slots, d .area) = ap (λ (x : Answered). (x .state, x .slots, x .area)) e in
+    q ∙ seen-put (d .state, d .slots, d .area)
 
 pub calling : Carries (boxCalls box) calls (λ x s. x ≡ seen s)
 calling =
     record {
       feeds = λ x y s piece n said e q.
           let c = s .0 in
-          let d : answer n said (y .0) (y .1) (y .2) ≡ feeding c blank (s .1) piece = rw e at q ∙ sym (feeding-box c blank (s .1) piece sixteen) in (
-            put y,
+          let f = feeding c blank (s .1) piece in
+          let d : answer n said (y .0) (y .1) (y .2) ≡ f = rw e at q ∙ sym (feeding-box c blank (s .1) piece sixteen) in (
+            (stateOf f, f .area),
             record {
               report = blank;
-              report′ = written said blank;
-              answer = record { refused = feedRefusal c blank (s .1); eaten = n; reported = saidSo said; state = put y .0 };
+              report′ = written (f .said) blank;
+              answer = record { refused = feedRefusal c blank (s .1); eaten = f .eaten; reported = saidSo (f .said); state = stateOf f };
               sixteen = sixteen;
-              promise = rw (← d) (record { refused = refl; eaten = refl; reported = refl; receiver = refl; slots = view-unview (y .1); reportAfter = refl; areaAfter = refl });
-              ate = refl;
-              says = sym (told-said said blank);
+              promise = tells (feedRefusal c blank (s .1)) f blank;
+              ate = ap (λ (x : Answered). x .eaten) d;
+              says = ap (λ (x : Answered). x .said) d ∙ sym (told-said (f .said) blank);
               leaves = refl;
             },
-            seen-put y,
+            answer-seen n said y f d,
           );
       stills = λ x y s said e q.
           let c = s .0 in
           let f = stilling c blank [] in
           let d : answer 0 said (y .0) (y .1) (y .2) ≡ answer 0 (f .said) (f .state) (f .slots) (s .1) = rw e at q ∙ sym (stilling-box c blank (s .1) sixteen) in (
-            put y,
+            (stateOf f, s .1),
             record {
               report = blank;
-              report′ = written said blank;
-              answer = record { refused = silenceRefusal c blank; reported = saidSo said; state = put y .0 };
+              report′ = written (f .said) blank;
+              answer = record { refused = silenceRefusal c blank; reported = saidSo (f .said); state = stateOf f };
               sixteen = sixteen;
-              promise = record {
-                refused = refl;
-                reported = ap (λ (x : Answered). saidSo (x .said)) d;
-                receiver = ap (λ (x : Answered). x .state) d;
-                slots = view-unview (y .1) ∙ ap (λ (x : Answered). x .slots) d;
-                reportAfter = ap (λ (x : Answered). written (x .said) blank) d;
-              };
-              says = sym (told-said said blank);
+              promise = falls (silenceRefusal c blank) f blank;
+              says = ap (λ (x : Answered). x .said) d ∙ sym (told-said (f .said) blank);
               leaves = refl;
-              area = ap (λ (x : Answered). x .area) d;
+              area = refl;
             },
-            seen-put y,
+            answer-seen 0 said y (answer 0 (f .said) (f .state) (f .slots) (s .1)) d,
           );
       forgets = λ x y s i e q.
           let c = s .0 in
           let d : y ≡ (c .receiver, box .free i (c .receiver) (slotsOf c), s .1) = rw e at q in (
-            put y,
-            record {
-              answer = record { number = pick (sound (c .receiver) (slotsOf c)) (forgetNumber keys i (slotsOf c)) 59; state = put y .0 };
-              promise = record { number = refl; receiver = ap (λ (x : Boxed). x .0) d; slots = view-unview (y .1) ∙ ap (λ (x : Boxed). x .1) d };
-              leaves = refl;
-              area = ap (λ (x : Boxed). x .2) d;
-            },
-            seen-put y,
+            (forgotBy c i .state, s .1),
+            record { answer = forgotBy c i; promise = forgets c i; leaves = refl; area = refl },
+            d ∙ seen-put (c .receiver, box .free i (c .receiver) (slotsOf c), s .1),
           );
     }
 

@@ -17,13 +17,12 @@ use Rattle.rebuild.specs.declared.Forgot.{Forgot as Freed}
 use Rattle.rebuild.proofs.Seen.{view-unview}
 use Rattle.rebuild.proofs.Giving as Giving
 use lib.ListN.{length}
-use Rattle.octets.specs.Choice.{pick}
-use Rattle.collector.specs.Calls.{box, sound, slotsOf, written, saidSo, Answered, feedRefusal, feeding, Tells, Feeds, silenceRefusal, stilling, Falls, Stills, Forgets}
+use Rattle.collector.specs.Calls.{box, written, saidSo, feedRefusal, feeding, Feeds, silenceRefusal, stilling, Stills, Forgets}
 use Rattle.collector.specs.declared.Collector.{Collector}
 use Rattle.collector.specs.declared.Fed.{Fed}
 use Rattle.collector.specs.declared.Fell.{Fell}
 use Rattle.collector.specs.declared.Forgot.{Forgot}
-use Rattle.collector.proofs.Alike.{feeds-one, stills-one, forgets-one}
+use Rattle.collector.proofs.Alike.{feeds-one, stills-one, forgets-one, stateOf, tells, falls, forgotBy, forgets}
 use Rattle.reader.specs.declared.Reader.{Reader}
 use denote.Ref.{RefT}
 use Rattle.demands.specs.Words.{One}
@@ -77,12 +76,6 @@ freed t s =
     }
 
 -- the collector's
-abbrev pub stateOf : Answered → Collector
-stateOf d = record { receiver = d .state; slots = unview (d .slots) }
-
-pub tells : (n : ℕ) (d : Answered) (report : List ℕ) → Tells n d report (record { refused = n; eaten = d .eaten; reported = saidSo (d .said); state = stateOf d }) (written (d .said) report) (d .area)
-tells n d report = record { refused = refl; eaten = refl; reported = refl; receiver = refl; slots = view-unview (d .slots); reportAfter = refl; areaAfter = refl }
-
 fed : (c : Collector) (piece report area : List ℕ) → One (Fed × List ℕ × List ℕ) (λ x. Feeds c report area piece (x .0) (x .1) (x .2))
 fed c piece report area =
     let d = feeding c report area piece in
@@ -91,9 +84,6 @@ fed c piece report area =
       allowed = tells (feedRefusal c report area) d report;
       same = λ r r′ a b. let e = feeds-one c report area piece a b in λ i. (e .0 i, e .1 i, e .2 i);
     }
-
-pub falls : (n : ℕ) (d : Answered) (report : List ℕ) → Falls n d report (record { refused = n; reported = saidSo (d .said); state = stateOf d }) (written (d .said) report)
-falls n d report = record { refused = refl; reported = refl; receiver = refl; slots = view-unview (d .slots); reportAfter = refl }
 
 fell : (c : Collector) (report : List ℕ) → One (Fell × List ℕ) (λ x. Stills c report (x .0) (x .1))
 fell c report =
@@ -104,12 +94,8 @@ fell c report =
       same = λ r r′ a b. let e = stills-one c report a b in λ i. (e .0 i, e .1 i);
     }
 
-pub forgets : (c : Collector) (s : ℕ)
-    → Forgets c s (record { number = pick (sound (c .receiver) (slotsOf c)) (forgetNumber keys s (slotsOf c)) 59; state = record { receiver = c .receiver; slots = unview (box .free s (c .receiver) (slotsOf c)) } })
-forgets c s = record { number = refl; receiver = refl; slots = view-unview (box .free s (c .receiver) (slotsOf c)) }
-
 forgot : (c : Collector) (s : ℕ) → One Forgot (λ r. Forgets c s r)
-forgot c s = record { answer = _; allowed = forgets c s; same = λ r r′ a b. forgets-one c s a b }
+forgot c s = record { answer = forgotBy c s; allowed = forgets c s; same = λ r r′ a b. forgets-one c s a b }
 
 pub one-answer : OneAnswer
 one-answer =

@@ -28,7 +28,6 @@ use Rattle.apdu.specs.declared.Answer.the-variants.{Good, Refused}
 use Rattle.items.specs.Reading as Items
 use Rattle.items.specs.Reading.{itemsOf, counted}
 use Rattle.items.specs.Reading.Out.{good, bad}
-use Rattle.items.specs.declared.Tally.{Tally}
 use Rattle.messages.specs.Slots.{Segment, Slot, Box, boxed, room, part, slotAt}
 use Rattle.messages.specs.Rows as Rows
 use Rattle.messages.specs.Rows.{Answer, rebuild}
@@ -50,7 +49,7 @@ use Rattle.collector.specs.Frame.Content.{other, refuses, network, refusesBehin
 use Rattle.collector.specs.declared.heard.Heard.{Heard}
 use Rattle.collector.specs.declared.heard.Parts.{Parts}
 use Rattle.collector.specs.Calls.{slotsOf}
-use Rattle.collector.specs.Offering.{Passes, End, Called}
+use Rattle.collector.specs.Offering.{Passes, End}
 use Rattle.collector.specs.declared.Collector.{Collector}
 use Rattle.collector.proofs.Demand as Collecting
 use Rattle.hitchbarley.proofs.Demand.{octets-demand3}

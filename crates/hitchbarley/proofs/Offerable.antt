@@ -1,7 +1,6 @@
 -- Every run can be offered by the exported calls: from an area that holds a state which 59 passes, each call of the box can be made over it.
 use Prim.Native.Nat.{ℕ}
 use mathlib.Core.Path.{_≡_, refl, sym, ap, subst, _∙_}
-use mathlib.Core.Bool.{true}
 use mathlib.Core.List.{List, []}
 use mathlib.Core.Option.{Option, none, some}
 use lib.ListN.{length, length-map}
@@ -18,14 +17,14 @@ use Rattle.collector.specs.Calls.{box, slotsOf, saidSo, written, Answered, feed
 use Rattle.collector.specs.Offering.{Passes}
 use Rattle.collector.specs.declared.Collector.{Collector}
 use Rattle.collector.proofs.Alike.{Boxed, blank, sixteen, feeding-box, stilling-box}
-use Rattle.collector.proofs.Reached.{Fair, FairAt, FairAnswer, feed-fair, still-fair, free-fair}
+use Rattle.collector.proofs.Reached.{FairAt, FairAnswer, feed-fair, still-fair, free-fair}
 use Rattle.collector.proofs.Demand.{boxed-way}
 use Rattle.records.specs.Flag.{flag}
 use Rattle.state.specs.Layout.{stateOctets}
 use Rattle.state.specs.Calls.{Loads}
 use Rattle.state.proofs.Whole.{Shaped}
 use Rattle.state.proofs.Exact.{shaped-loads}
-use Rattle.hitchbarley.specs.Trunk.{Left, stateBy, stateOf, passed, bar, inside, feedBar, feedLeft, silenceBar, silenceLeft, forgetNumberOf, forgotten, forgetLeft, Feeds, Stills, Forgets}
+use Rattle.hitchbarley.specs.Trunk.{Left, stateBy, stateOf, passed, bar, inside, feedBar, feedLeft, silenceBar, silenceLeft, forgotten, forgetLeft, Feeds, Stills, Forgets}
 use Rattle.hitchbarley.specs.Offering.{Heard, toldBy, Areas, calls, Linked}
 use Rattle.hitchbarley.proofs.Demand.{inside-is}
 
@@ -66,7 +65,7 @@ module _ (x : Boxed) (s : Areas) (S : Stands x s) where
 
     bar-none : feedBar (s .0) blank (s .1) ≡ 0
     unfolding feedBar bar
-    bar-none = rw (eq-eqb (length blank) 16 sixteen, eq-eqb (length (s .1)) 65536 long, S .loads)
+    bar-none = rw (eq-eqb (length blank) reportSize sixteen, eq-eqb (length (s .1)) 65536 long, S .loads)
 
     left-fed : feedLeft (s .0) blank (s .1) piece ≡ passed (feedRefusal (inside (s .0)) blank (s .1)) (answer n said (y .0) (y .1) (y .2)) blank
     unfolding feedLeft
@@ -96,7 +95,7 @@ module _ (x : Boxed) (s : Areas) (S : Stands x s) where
 
     silence-none : silenceBar (s .0) blank ≡ 0
     unfolding silenceBar bar
-    silence-none = rw (eq-eqb (length blank) 16 sixteen, S .loads)
+    silence-none = rw (eq-eqb (length blank) reportSize sixteen, S .loads)
 
     left-fell : silenceLeft (s .0) blank ≡ passed (silenceRefusal (inside (s .0)) blank) quiet blank
     unfolding silenceLeft
