@@ -13,6 +13,7 @@ use Rattle.trunk.specs.Reading.{heldOf}
 use Rattle.rebuild.specs.View.{back}
 use Rattle.rebuild.specs.declared.Slots.{Slots}
 use Rattle.rebuild.proofs.Seen.{view-unview, unview-view}
+use Rattle.reports.specs.Layout.{reportSize}
 use Rattle.collector.specs.Calls.{box, slotsOf, saidSo, written, Answered, feedRefusal, feeding, silenceRefusal, stilling}
 use Rattle.collector.specs.Offering.{Passes}
 use Rattle.collector.specs.declared.Collector.{Collector}
