@@ -1,9 +1,9 @@
 -- How the calls of a trunk come to what they promise: a refusal before the collector's call, or that call over what the state area holds.
 use Prim.Native.Nat.{ℕ}
-use mathlib.Core.Path.{_≡_, sym, ap, _∙_}
-use mathlib.Core.Bool.{true}
-use mathlib.Core.List.{List, []}
-use lib.ListN.{length}
+use mathlib.Core.Path.{_≡_, refl, sym, ap, _∙_}
+use mathlib.Core.Bool.{true, false}
+use mathlib.Core.List.{List, [], _++_}
+use lib.ListN.{length, take, drop}
 use native.Mathlib.Omega.{arith}
 use borrow.Author.Tests.{eq-eqb, ne-eqb}
 use Rattle.octets.specs.Reading.{Octets}
@@ -22,11 +22,12 @@ use Rattle.collector.specs.declared.lent.Ate.{Ate}
 use Rattle.collector.specs.declared.lent.Hushed.{Hushed}
 use Rattle.collector.specs.declared.lent.Freed.{Freed}
 use Rattle.records.specs.Flag.{flag}
-use Rattle.state.specs.Layout.{stateSize, storePart, stateOctets}
-use Rattle.state.specs.Calls.{loadOf, liftOf}
+use Rattle.state.specs.Link.{linkSize, linkOctets}
+use Rattle.state.specs.Layout.{storePlace, storeSize, slotsPlace, slotsSize, stateSize, storePart, slotsOctets, stateOctets}
+use Rattle.state.specs.Calls.{loadOf, liftOf, Lays}
 use Rattle.state.specs.declared.Lifted.{Lifted}
 use Rattle.state.proofs.Exact.{accepted-size, accepted-store}
-use Rattle.state.proofs.Places.{Holds, accepted-holds, holds-octets, holds-loads}
+use Rattle.state.proofs.Places.{Holds, accepted-holds, holds-octets, holds-loads, store-over, link-over, slots-over}
 use Rattle.hitchbarley.specs.Trunk.{Left, barred, stateBy, stateOf, passed, bar, inside, feedBar, feedLeft, silenceBar, silenceLeft, forgetNumberOf, forgotten, forgetLeft, Feeds, Stills, Forgets}
 
 -- a state by its parts
@@ -127,6 +128,17 @@ module _ (state report area piece : List ℕ) where
           again = λ b. holds-loads h′;
         }
 
+    -- with store and link laid back; slots that have moved are laid too, others are those that were there
+    pub feeds-stayed : Octets state → w .refused ≡ 0 → {f : Ate} {r : ℕ} {s state′ report′ area′ : List ℕ} → Eats (w .link) (w .slots) (storePart state) report area piece f s report′ area′
+        → length s ≡ storeSize → Lays 0 linkSize (linkOctets (f .link)) (take storePlace state ++ (s ++ drop storeSize (drop storePlace state))) r state′ → f .moved ≡ false
+        → Feeds state report area piece (f .refused) (f .eaten) (flag (f .reported)) state′ report′ area′
+    feeds-stayed os z {s = s} y n d g = feeds-on z y (y .kept g) (link-over (store-over (lifted-holds state os e z) s n) d)
+
+    pub feeds-moved : Octets state → w .refused ≡ 0 → {f : Ate} {r r′ : ℕ} {s linked state′ report′ area′ : List ℕ} → Eats (w .link) (w .slots) (storePart state) report area piece f s report′ area′
+        → length s ≡ storeSize → Lays 0 linkSize (linkOctets (f .link)) (take storePlace state ++ (s ++ drop storeSize (drop storePlace state))) r linked
+        → Lays slotsPlace slotsSize (slotsOctets (f .slots .slots)) linked r′ state′ → Feeds state report area piece (f .refused) (f .eaten) (flag (f .reported)) state′ report′ area′
+    feeds-moved os z {s = s} y n d d′ = feeds-on z y refl (slots-over (link-over (store-over (lifted-holds state os e z) s n) d) d′)
+
 -- ---- a silence
 module _ (state report : List ℕ) where
   stills-barred : (n : ℕ) → silenceBar state report ≡ n → (n ≡ 0 → ⊥) → Stills state report n 0 state report
@@ -166,6 +178,11 @@ module _ (state report : List ℕ) where
           again = λ b. holds-loads h′;
         }
 
+    -- with the link laid back
+    pub stills-laid : Octets state → w .refused ≡ 0 → {f : Hushed} {r : ℕ} {state′ report′ : List ℕ} → Hushes (w .link) (w .slots) report f report′
+        → Lays 0 linkSize (linkOctets (f .link)) state r state′ → Stills state report (f .refused) (flag (f .reported)) state′ report′
+    stills-laid os z y d = stills-on z y (link-over (lifted-holds state os e z) d)
+
 -- ---- forgetting
 module _ (state : List ℕ) (i : ℕ) (w : Lifted) (e : w ≡ liftOf state) where
   forget-sizes : bar true state ≡ w .refused
@@ -189,3 +206,8 @@ module _ (state : List ℕ) (i : ℕ) (w : Lifted) (e : w ≡ liftOf state) wher
       let v : c ≡ forgotten (inside state) i = whole c _ _ (y′ .receiver) (y′ .slots) in
       let h′ : Holds state′ (forgotten (inside state) i) = rw (← v) h in
       record { number = y′ .number ∙ number-of q; stateAfter = holds-octets h′ ∙ state-of q; again = λ b. holds-loads h′ }
+
+  -- with the slots laid back
+  pub forgets-laid : Octets state → w .refused ≡ 0 → {f : Freed} {r : ℕ} {state′ : List ℕ} → Frees (w .link) (w .slots) i f
+      → Lays slotsPlace slotsSize (slotsOctets (f .slots .slots)) state r state′ → Forgets state i (f .number) state′
+  forgets-laid os z y d = forgets-on z y (slots-over (lifted-holds state os e z) d)

@@ -13,11 +13,11 @@ use Rattle.rebuild.specs.declared.Slots.{Slots}
 use Rattle.collector.specs.Lent.{over}
 use Rattle.collector.specs.declared.Collector.{Collector}
 use Rattle.state.specs.Link.{linkSize, linkOctets}
-use Rattle.state.specs.Layout.{storePlace, storeSize, slotsPlace, slotsSize, stateSize, slotsOctets, stateOctets}
+use Rattle.state.specs.Layout.{storePlace, storeSize, slotsPlace, slotsSize, stateSize, slotsOctets, behindOctets, stateOctets}
 use Rattle.state.specs.Calls.{loadOf, Loads, Lays}
 use Rattle.state.proofs.Link.{link-size, link-shaped}
 use Rattle.state.proofs.Slots.{slots-size, slots-shaped}
-use Rattle.state.proofs.Whole.{Shaped, fits-shaped, state-size}
+use Rattle.state.proofs.Whole.{Shaped, fits-shaped, front, in-front, front-long, state-size}
 use Rattle.state.proofs.Exact.{shaped-loads, loads-only, accepted}
 
 pub record Holds (o : List ℕ) (c : Collector) : Type 0 where
@@ -49,22 +49,22 @@ laid-over a b c b′ at h k =
     let d : drop (at + length b′) (a ++ (b ++ c)) ≡ c = ap (λ (x : List ℕ). drop (at + length b′) x) (sym (append-assoc a b c)) ∙ drop-at (a ++ b) c (at + length b′) n in
     rw (t, d) (append-assoc a b′ c)
 
+laid-last : (a b b′ : List ℕ) (at : ℕ) → length a ≡ at → length b′ ≡ length b → splice (a ++ b) at b′ ≡ a ++ b′
+laid-last a b b′ at h k = simp append-nil at (laid-over a b [] b′ at h k)
+
 module _ {o : List ℕ} {l : Link} {t : Slots} {s : List ℕ} (h : Holds o (over l t s)) where
   abbrev link : List ℕ
   link = linkOctets l
 
-  abbrev slots : List ℕ
-  slots = slotsOctets (t .slots)
+  abbrev behind : List ℕ
+  behind = behindOctets t
 
-  parts : o ≡ link ++ (s ++ slots)
+  parts : o ≡ link ++ (s ++ behind)
   unfolding stateOctets
   parts = h .octets
 
   link-long : length link ≡ linkSize
   link-long = link-size l (h .shaped .head)
-
-  slots-long : length slots ≡ slotsSize
-  slots-long = slots-size (t .slots) (h .shaped .four)
 
   lays : {at n r : ℕ} {xs o′ : List ℕ} → Lays at n xs o r o′ → o′ ≡ splice o at xs
   lays y = rw (eq-eqb (length o) stateSize (holds-size h)) at (y .after)
@@ -73,23 +73,26 @@ module _ {o : List ℕ} {l : Link} {t : Slots} {s : List ℕ} (h : Holds o (over
   pub store-over : (s′ : List ℕ) → length s′ ≡ storeSize → Holds (take storePlace o ++ (s′ ++ drop storeSize (drop storePlace o))) (over l t s′)
   unfolding stateOctets
   store-over s′ n =
-      let a : take storePlace o ≡ link = rw parts (take-at link (s ++ slots) storePlace link-long) in
-      let b : drop storePlace o ≡ s ++ slots = rw parts (drop-at link (s ++ slots) storePlace link-long) in
-      let d : drop storeSize (drop storePlace o) ≡ slots = rw b (drop-at s slots storeSize (h .shaped .store)) in
+      let a : take storePlace o ≡ link = rw parts (take-at link (s ++ behind) storePlace link-long) in
+      let b : drop storePlace o ≡ s ++ behind = rw parts (drop-at link (s ++ behind) storePlace link-long) in
+      let d : drop storeSize (drop storePlace o) ≡ behind = rw b (drop-at s behind storeSize (h .shaped .store)) in
       record { shaped = record { head = h .shaped .head; store = n; four = h .shaped .four }; octets = rw (a, d) }
 
   -- a link, and slots, laid over those that are there
   pub link-over : {l′ : Link} {r : ℕ} {o′ : List ℕ} → Lays 0 linkSize (linkOctets l′) o r o′ → Holds o′ (over l′ t s)
   unfolding stateOctets
   link-over {l′} y =
-      let e = laid-over [] link (s ++ slots) (linkOctets l′) 0 (omega arith) (y .long ∙ sym link-long) in
+      let e = laid-over [] link (s ++ behind) (linkOctets l′) 0 (omega arith) (y .long ∙ sym link-long) in
       record { shaped = record { head = link-shaped l′ (y .long); store = h .shaped .store; four = h .shaped .four }; octets = lays y ∙ rw parts e }
 
   pub slots-over : {t′ : Slots} {r : ℕ} {o′ : List ℕ} → Lays slotsPlace slotsSize (slotsOctets (t′ .slots)) o r o′ → Holds o′ (over l t′ s)
-  unfolding stateOctets
-  slots-over {t′} y =
-      let q = slotsOctets (t′ .slots) in
-      let n : length (link ++ s) ≡ slotsPlace = rw (length-append, link-long, h .shaped .store) in
-      let e : splice ((link ++ s) ++ (slots ++ [])) slotsPlace q ≡ (link ++ s) ++ (q ++ []) = laid-over (link ++ s) slots [] q slotsPlace n (y .long ∙ sym slots-long) in
-      let w : o ≡ (link ++ s) ++ (slots ++ []) = parts ∙ rw append-nil (sym (append-assoc link s slots)) in
-      record { shaped = record { head = h .shaped .head; store = h .shaped .store; four = slots-shaped (t′ .slots) (y .long) }; octets = lays y ∙ rw w (e ∙ rw append-nil (append-assoc link s q)) }
+  slots-over {t′} {r} {o′} y =
+      let q = slotsOctets (t .slots) in
+      let q′ = slotsOctets (t′ .slots) in
+      let w : o ≡ front l s ++ q = h .octets ∙ sym (in-front (over l t s)) in
+      let n : length q′ ≡ length q = y .long ∙ sym (slots-size (t .slots) (h .shaped .four)) in
+      let e : splice (front l s ++ q) slotsPlace q′ ≡ front l s ++ q′ = laid-last (front l s) q q′ slotsPlace (front-long (over l t s) (h .shaped)) n in
+      record {
+        shaped = record { head = h .shaped .head; store = h .shaped .store; four = slots-shaped (t′ .slots) (y .long) };
+        octets = lays y ∙ rw w (e ∙ in-front (over l t′ s));
+      }

@@ -1,5 +1,5 @@
 -- All of a state: its octets are that state, and octets that are a state are its octets.
-use Prim.Native.Nat.{ℕ, _+_}
+use Prim.Native.Nat.{ℕ}
 use native.Mathlib.Omega.{arith}
 use mathlib.Core.Path.{_≡_, refl, sym, ap, _∙_}
 use mathlib.Core.Bool.{true}
@@ -8,16 +8,17 @@ use lib.ListN.{length, drop, length-append}
 use lib.Seq.{take-at, drop-at}
 use Rattle.octets.specs.Choice.{both-true}
 use Rattle.octets.specs.Every.{octets-part}
-use Rattle.octets.specs.Reading.{oct, Octets}
+use Rattle.octets.specs.Reading.{Octets}
 use Rattle.octets.specs.Splice.{splice}
+use Rattle.frames.specs.declared.Link.{Link}
 use Rattle.collector.specs.Calls.{slotCount}
 use Rattle.collector.specs.declared.Collector.{Collector}
 use Rattle.records.proofs.Areas.{laid-whole, three-laid}
-use Rattle.state.specs.Link.{linkSize, linkOctets, linkGood, linkOf}
-use Rattle.state.specs.Layout.{storePlace, storeSize, slotsPlace, stateSize, linkPart, storePart, slotsOctets, stateOctets, Fits}
+use Rattle.state.specs.Link.{linkSize, linkOctets, linkGood}
+use Rattle.state.specs.Layout.{storePlace, storeSize, slotsPlace, stateSize, linkPart, storePart, slotsOctets, behindOctets, stateOctets, Fits}
 use Rattle.state.specs.Calls.{slotsGood, slotsAt, stateGood, stateAt}
 use Rattle.state.proofs.Parts.{cut-size, cut-then, join}
-use Rattle.state.proofs.Link.{link-size, link-back, link-stands, LinkFits, link-fits}
+use Rattle.state.proofs.Link.{link-size, link-back, link-stands, link-fits}
 use Rattle.state.proofs.Slots.{slots-size, slots-back, slots-stand, slots-fit, slots-count}
 
 -- what every value of the types has: arrays of their sizes
@@ -28,6 +29,14 @@ pub record Shaped (c : Collector) : Type 0 where
 
 pub fits-shaped : {c : Collector} → Fits c → Shaped c
 fits-shaped f = record { head = f .head; store = f .store; four = f .four }
+
+-- what stands in front of the slots, and that they come right behind it
+abbrev pub front : Link → List ℕ → List ℕ
+front l s = linkOctets l ++ s
+
+pub in-front : (c : Collector) → front (c .receiver .link) (c .receiver .store) ++ slotsOctets (c .slots .slots) ≡ stateOctets c
+unfolding stateOctets
+in-front c = append-assoc (linkOctets (c .receiver .link)) (c .receiver .store) (slotsOctets (c .slots .slots))
 
 -- ---- the octets of a state are that state
 module _ (c : Collector) (f : Shaped c) where
@@ -43,29 +52,26 @@ module _ (c : Collector) (f : Shaped c) where
   link-long : length link ≡ linkSize
   link-long = link-size (c .receiver .link) (f .head)
 
-  front-long : length (link ++ store) ≡ slotsPlace
+  pub front-long : length (front (c .receiver .link) store) ≡ slotsPlace
   front-long = rw (length-append, link-long, f .store)
 
-  in-front : (link ++ store) ++ slots ≡ stateOctets c
-  unfolding stateOctets
-  in-front = append-assoc link store slots
-
   pub state-size : length (stateOctets c) ≡ stateSize
-  state-size = rw (← in-front, length-append, front-long, slots-size (c .slots .slots) (f .four))
+  state-size = rw (← in-front c, length-append, front-long, slots-size (c .slots .slots) (f .four))
 
   link-stands-first : linkPart (stateOctets c) ≡ link
   unfolding stateOctets
-  link-stands-first = take-at link (store ++ slots) linkSize link-long
+  link-stands-first = take-at link (store ++ behindOctets (c .slots)) linkSize link-long
 
   store-stands-next : storePart (stateOctets c) ≡ store
   unfolding stateOctets
-  store-stands-next = rw (drop-at link (store ++ slots) storePlace link-long) (take-at store slots storeSize (f .store))
+  store-stands-next =
+      rw (drop-at link (store ++ behindOctets (c .slots)) storePlace link-long) (take-at store (behindOctets (c .slots)) storeSize (f .store))
 
   pub state-back : (stateAt (stateOctets c) ≡ c) × (stateGood (stateOctets c) ≡ true)
   unfolding stateAt stateGood
   state-back =
       let b = link-back (c .receiver .link) (f .head) in
-      let z = rw (in-front, f .four) at (slots-back (link ++ store) 0 (c .slots .slots) front-long) in
+      let z = rw (in-front c, f .four) at (slots-back (front (c .receiver .link) store) 0 (c .slots .slots) front-long) in
       (rw (link-stands-first, store-stands-next, b .0, z .0), rw (link-stands-first, b .1, z .1))
 
   -- its parts, laid over an area of its size

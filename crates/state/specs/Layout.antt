@@ -10,6 +10,7 @@ use lib.ListN.{length, take, drop}
 use Rattle.octets.specs.Reading.{Octets}
 use Rattle.frames.specs.Step as Frames
 use Rattle.rebuild.specs.declared.Slot.{Slot}
+use Rattle.rebuild.specs.declared.Slots.{Slots}
 use Rattle.collector.specs.Calls.{slotCount}
 use Rattle.collector.specs.declared.Collector.{Collector}
 use Rattle.state.specs.Link.{linkSize, linkOctets, PhaseFits}
@@ -51,8 +52,12 @@ abbrev pub slotsOctets : List Slot → List ℕ
 slotsOctets [] = []
 slotsOctets (x ∷ xs) = slotOctets x ++ slotsOctets xs
 
+-- link, store, and what stands behind the store
+abbrev pub behindOctets : Slots → List ℕ
+behindOctets t = slotsOctets (t .slots)
+
 unfoldable pub stateOctets : Collector → List ℕ
-stateOctets c = linkOctets (c .receiver .link) ++ (c .receiver .store ++ slotsOctets (c .slots .slots))
+stateOctets c = linkOctets (c .receiver .link) ++ (c .receiver .store ++ behindOctets (c .slots))
 
 -- ---- the values that a state's types hold: every octet an octet, every array of its size
 abbrev pub SlotsFit : List Slot → Type 0

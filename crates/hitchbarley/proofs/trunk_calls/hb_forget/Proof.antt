@@ -1,10 +1,14 @@
 use native.Mathlib.Omega.{arith}
 use denote.Ref.{now}
-use Rattle.state.proofs.Places.{slots-over}
-use Rattle.hitchbarley.proofs.Passed.{lifted-holds, forgets-not, forgets-on}
+use Rattle.octets.specs.Reading.{Octets}
+use Rattle.hitchbarley.proofs.Passed.{forgets-not, forgets-laid}
 use borrow.Author.Needs.{needs}
 use Rattle.hitchbarley.proofs.trunk_calls.hb_forget.Statement.{statement}
 use Rattle.hitchbarley.proofs.trunk_calls.hb_forget.Tie as tie
+
+-- the state area is octets
+known : (st : tie.After-slice-known) → Octets (now (st .before .args .state))
+known st i = omega (arith, st .slice-known .given i)
 
 pub hb-forget-spec : {M : Type 1} → statement M
 hb-forget-spec =
@@ -12,8 +16,8 @@ hb-forget-spec =
     (tie.spec
     (λ c κs. search needs)
     (λ c. search needs)
-    (λ c. forgets-not _ _ (c .before .lift .result) (c .before .lift .ensures) (c .if1 .taken))
+    (λ c. search (needs, forgets-not))
     (λ c κs. search needs)
     (λ c κs. search needs)
     (λ c. search needs)
-    (λ c. forgets-on _ _ (c .before .before .before .before .before .before .before .before .before .lift .result) (c .before .before .before .before .before .before .before .before .before .lift .ensures) (c .before .before .before .before .before .before .before .before .if1 .left) (c .before .before .before .before .before .forget .ensures) (slots-over (lifted-holds (now (c .before .before .before .before .before .before .before .before .before .before .before .before .args .state)) (λ i. omega (arith, c .before .before .before .before .before .before .before .before .before .before .before .slice-known .given i)) (c .before .before .before .before .before .before .before .before .before .lift .ensures) (c .before .before .before .before .before .before .before .before .if1 .left)) (c .before .before .lay-slots .ensures))))
+    (λ c. search (needs, forgets-laid, known)))

@@ -17,6 +17,4 @@ put-state-spec =
     (λ c κs. let h = shaped (c .before .before .before .before .before .before .before .before .before .before .before) in search needs)
     (λ c κs. search needs)
     (λ c. search needs)
-    (λ c.
-    let st = c .before .before .before .before .before .before .before .before .before .before .before .before .before .before .before .before .before .before in
-    state-laid (st .args .c) (shaped st) _ (st .pre) (c .before .before .before .before .before .before .before .before .before .before .before .put-link .ensures) (c .before .before .before .before .before .before .copy .ensures) (c .before .before .put-slots .ensures)))
+    (λ c. search (needs, state-laid, shaped)))
