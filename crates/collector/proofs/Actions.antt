@@ -39,7 +39,7 @@ use Rattle.reports.specs.declared.Report.{Report}
 use Rattle.collector.specs.Heard.{heardOf, Route, routeOf, partsOf}
 use Rattle.collector.specs.Frame.{Content, segmentFrom, segmentIn, plainReport, stepReport, apduContent, npduContent, contentOf, contents, bacnet}
 use Rattle.collector.specs.Frame.Content.{other, refuses, network, refusesBehind, message}
-use Rattle.collector.specs.Acting.{Acts, acting, Acted, Kept, Named}
+use Rattle.collector.specs.Acting.{acting, Acted, Kept, Named}
 use Rattle.collector.specs.declared.heard.Heard.{Heard}
 use Rattle.collector.specs.declared.heard.Parts.{Parts}
 use Rattle.collector.proofs.Content.{content-5, content-6, content-other, npdu-refused, npdu-network, npdu-apdu, apdu-refused, apdu-good, part-rest}

@@ -5,7 +5,7 @@ use native.Mathlib.Omega.{arith}
 use Rattle.reports.specs.declared.Report.{Report}
 use Rattle.reports.specs.Kinds.{otherFrame, damaged, unsegmented, segmentTaken, complete, refusal, networkMessage, Kind}
 use Rattle.reports.specs.Kinds.Kind.{other, damage, single, taken, whole, refused, network}
-use Rattle.reports.specs.Valid.{Row, filled, Lacks, Fits, Valid}
+use Rattle.reports.specs.Valid.{filled, Lacks, Fits, Valid}
 use Rattle.reports.specs.Reading.{lacksIn}
 use Rattle.reports.proofs.Exact.{lacks-by}
 

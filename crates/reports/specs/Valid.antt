@@ -4,8 +4,6 @@ use mathlib.Core.Path.{_≡_}
 use mathlib.Core.Bool.{Bool, true, false}
 use lib.Dec.{eqb}
 use Rattle.octets.specs.Choice.{pick}
-use Rattle.reports.specs.declared.Apdu.{Apdu}
-use Rattle.reports.specs.declared.Frame.{Frame}
 use Rattle.reports.specs.declared.Report.{Report}
 use Rattle.reports.specs.Kinds.{noFrame, noApdu}
 
