@@ -1,121 +1,232 @@
-// Listens: reads trunk octets from standard input, as a capture or a serial port hands them over, and prints a line for each report:
-// the number of octets heard so far, what was heard, and the report's 16 octets.
-// Raw octets carry no silences, so the end of the input is the only one that is heard.
-mod numbers;
-mod words;
+// Listens: reads trunk octets from a file or standard input, as a capture or a serial port hands them over, and prints a line for each report,
+// or with --csv a row for each value. Raw octets carry no silences, so the end of the input is the only one that is heard.
+mod closing;
+mod ear;
+mod output;
+mod wish;
 
-use collector::Collector;
-use libc::STDERR_FILENO;
-use libc::STDIN_FILENO;
+use ear::Ear;
+use values::table::Told;
+use wish::Wish;
 
-// The listener between two reads.
-struct Heard {
-    state: Collector,
-    octets: u64,
-    more: bool,
-}
-
-// A line for a report.
-fn line(octets: u64, report: [u8; 16]) {
-    show::text(b"octet ");
-    io::print_decimal(libc::STDOUT_FILENO, octets);
-    show::text(b": ");
-    words::report(report);
-    show::text(b" | ");
-    show::row(&report);
-    show::text(b"\n");
-}
-
-// What one call eats of a lump from a place on; the octets heard are then as many more.
-fn feed(h: Heard, rest: &[u8], area: &mut [u8; 65536]) -> Heard {
-    let mut report = [0u8; 16];
-    let f = h.state.feed(rest, &mut report, area);
-    let state = f.state;
-    let octets = std::num::wrapping_add_u64(h.octets, f.eaten as u64);
-    if f.reported {
-        line(octets, report);
+// The line or the rows of a report.
+fn tell(
+    e: Ear,
+    w: Wish,
+    report: [u8; 16],
+    store: &[u8; 501],
+    area: &[u8; 65536],
+    records: &mut [u8; 24576],
+    out: &mut [u8; 131072],
+) -> Ear {
+    if w.csv {
+        return rows(e, report, store, area, records, out);
     }
-    Heard {
-        state,
-        octets,
-        more: f.reported,
-    }
+    let at = lines::line(e.octets, report, store, area, w.octets, records, out, e.at);
+    output::when_full(e.wrote(at), out)
 }
 
-// A lump: what a call leaves after a report is offered again. Each report eats an octet, so no more calls than octets are needed.
-fn lump(h: Heard, s: &[u8], area: &mut [u8; 65536]) -> Heard {
-    let start = h.octets;
-    let mut now = h;
-    let mut left = s.len();
-    while 0 < left && now.more {
-        let at = std::num::wrapping_sub_u64(now.octets, start) as usize;
-        now = feed(now, show::part(s, at, s.len()), area);
+// Some rows of a report, from an item on.
+fn some_rows(
+    e: Ear,
+    report: [u8; 16],
+    store: &[u8; 501],
+    area: &[u8; 65536],
+    from: usize,
+    records: &mut [u8; 24576],
+    out: &mut [u8; 131072],
+) -> Told {
+    lines::table::rows(e.octets, report, store, area, from, records, out, e.at)
+}
+
+// The rows of a report; where the area is full it is written out, and the rows go on.
+fn rows(
+    e: Ear,
+    report: [u8; 16],
+    store: &[u8; 501],
+    area: &[u8; 65536],
+    records: &mut [u8; 24576],
+    out: &mut [u8; 131072],
+) -> Ear {
+    let mut now = e;
+    let mut from = 0;
+    let mut left: usize = 2049;
+    while 0 < left {
+        let r = some_rows(now, report, store, area, from, records, out);
+        now = output::when_full(now.wrote(r.at), out);
+        if !r.more {
+            return now;
+        }
+        from = r.next;
         left -= 1;
     }
     now
 }
 
-// One read; whether there is more.
-fn some(h: Heard, area: &mut [u8; 65536]) -> Heard {
-    let mut buf = io::buffer();
-    let got = libc::read(STDIN_FILENO, &mut buf);
+// What one call eats of a piece from a place on, and what is told of it.
+fn turn(
+    e: Ear,
+    w: Wish,
+    rest: &[u8],
+    store: &mut [u8; 501],
+    area: &mut [u8; 65536],
+    counts: &mut [u64; 12],
+    records: &mut [u8; 24576],
+    out: &mut [u8; 131072],
+) -> Ear {
+    let mut report = [0u8; 16];
+    let f = ear::feed(e, rest, store, &mut report, area, counts);
+    if f.more {
+        return tell(f, w, report, store, area, records, out);
+    }
+    f
+}
+
+// A piece: what a call leaves after a report is offered again. Each report eats an octet, so no more calls than octets are needed.
+fn piece(
+    e: Ear,
+    w: Wish,
+    s: &[u8],
+    store: &mut [u8; 501],
+    area: &mut [u8; 65536],
+    counts: &mut [u64; 12],
+    records: &mut [u8; 24576],
+    out: &mut [u8; 131072],
+) -> Ear {
+    let start = e.octets;
+    let mut now = e;
+    let mut left = s.len();
+    while 0 < left && now.more {
+        let at = std::num::wrapping_sub_u64(now.octets, start) as usize;
+        now = turn(
+            now,
+            w,
+            show::part(s, at, s.len()),
+            store,
+            area,
+            counts,
+            records,
+            out,
+        );
+        left -= 1;
+    }
+    now
+}
+
+// One read; whether there is more. What was told of it is written out, so that a live trunk is seen as it speaks.
+fn some(
+    e: Ear,
+    w: Wish,
+    fd: i32,
+    buf: &mut [u8; 65536],
+    store: &mut [u8; 501],
+    area: &mut [u8; 65536],
+    counts: &mut [u64; 12],
+    records: &mut [u8; 24576],
+    out: &mut [u8; 131072],
+) -> Ear {
+    let got = libc::read(fd, buf);
     if got <= 0 {
         if got < 0 {
-            os::fail(b"listen: standard input");
+            os::fail(b"listen: reading");
         }
-        return stopped(h);
+        return e.going(false);
     }
-    let n = io::count(got, &buf);
-    going(lump(h, &buf[..n], area))
-}
-
-fn stopped(h: Heard) -> Heard {
-    let state = h.state;
-    Heard {
-        state,
-        octets: h.octets,
-        more: false,
-    }
-}
-
-fn going(h: Heard) -> Heard {
-    let state = h.state;
-    Heard {
-        state,
-        octets: h.octets,
-        more: true,
-    }
+    let n = io::count(got, buf);
+    let f = piece(
+        e.going(true),
+        w,
+        show::part(buf, 0, n),
+        store,
+        area,
+        counts,
+        records,
+        out,
+    );
+    output::flush(f.going(true), out)
 }
 
 // All of the input: the loop counts its turns down from a number that no run uses up.
-fn all(area: &mut [u8; 65536]) -> Heard {
-    let state = Collector::fresh();
-    let mut h = Heard {
-        state,
-        octets: 0,
-        more: true,
-    };
+fn all(
+    fresh: Ear,
+    w: Wish,
+    fd: i32,
+    store: &mut [u8; 501],
+    area: &mut [u8; 65536],
+    counts: &mut [u64; 12],
+    records: &mut [u8; 24576],
+    out: &mut [u8; 131072],
+) -> Ear {
+    let mut buf = io::large_buffer();
+    let mut e = fresh;
     let mut turns = u64::MAX;
-    while turns > 0 && h.more {
-        h = some(h, area);
+    while turns > 0 && e.more {
+        e = some(e, w, fd, &mut buf, store, area, counts, records, out);
         turns -= 1;
     }
-    h
+    e
+}
+
+// The end of the input is a silence; then the closing line, which with --csv goes to standard error.
+fn end(
+    e: Ear,
+    w: Wish,
+    store: &[u8; 501],
+    area: &[u8; 65536],
+    counts: &mut [u64; 12],
+    records: &mut [u8; 24576],
+    out: &mut [u8; 131072],
+) {
+    let mut report = [0u8; 16];
+    let f = ear::silence(e, &mut report, counts);
+    let g = last(f, w, report, store, area, records, out);
+    closing::line(g, w.csv, counts, out);
+}
+
+fn last(
+    e: Ear,
+    w: Wish,
+    report: [u8; 16],
+    store: &[u8; 501],
+    area: &[u8; 65536],
+    records: &mut [u8; 24576],
+    out: &mut [u8; 131072],
+) -> Ear {
+    if e.more {
+        return tell(e, w, report, store, area, records, out);
+    }
+    e
+}
+
+fn listen(w: Wish, fd: i32) {
+    let mut store = [0u8; 501];
+    let mut area = io::large_buffer();
+    let mut counts = [0u64; 12];
+    let mut records = [0u8; 24576];
+    let mut out = [0u8; 131072];
+    let at = output::start(w.csv, &mut out);
+    let e = all(
+        ear::fresh(at),
+        w,
+        fd,
+        &mut store,
+        &mut area,
+        &mut counts,
+        &mut records,
+        &mut out,
+    );
+    end(e, w, &store, &area, &mut counts, &mut records, &mut out);
 }
 
 fn main() {
-    if 1 < os::arg_count() {
-        io::write_all(
-            STDERR_FILENO,
-            b"usage: listen <CAPTURE, with trunk octets on standard input\n",
-        );
+    let w = wish::read();
+    if w.wrong {
+        wish::usage();
         return;
     }
-    let mut area = io::large_buffer();
-    let h = all(&mut area);
-    let mut report = [0u8; 16];
-    let f = h.state.silence(&mut report);
-    if f.reported {
-        line(h.octets, report);
+    let fd = wish::open(w.file);
+    if fd < 0 {
+        return;
     }
+    listen(w, fd);
 }

@@ -3,13 +3,13 @@ use Rattle.listen.proofs.all.Statement.{statement}
 use Rattle.listen.proofs.all.Tie as tie
 
 abbrev Inv-loop : tie.InvT-loop
-Inv-loop area₀ h₀ turns₀ area h turns = Unit {0}
+Inv-loop w fd store₀ area₀ counts₀ records₀ out₀ buf₀ e₀ turns₀ store area counts records out buf e turns = Unit {0}
 
 abbrev μ-loop : tie.MeasureT-loop
-μ-loop area₀ h₀ turns₀ area h turns = turns
+μ-loop w fd store₀ area₀ counts₀ records₀ out₀ buf₀ e₀ turns₀ store area counts records out buf e turns = turns
 
-fresh-requires : tie.Need-fresh-requires Inv-loop μ-loop
-fresh-requires c κs = search needs
+large-buffer-requires : tie.Need-large-buffer-requires Inv-loop μ-loop
+large-buffer-requires c κs = search needs
 
 loop-holds : tie.Need-loop-holds Inv-loop μ-loop
 loop-holds c = search needs
@@ -38,7 +38,7 @@ all-spec =
     (tie.spec
     Inv-loop
     μ-loop
-    fresh-requires
+    large-buffer-requires
     loop-holds
     some-requires
     sub-turns

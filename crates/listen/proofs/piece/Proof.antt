@@ -1,12 +1,12 @@
 use borrow.Author.Needs.{needs}
-use Rattle.listen.proofs.lump.Statement.{statement}
-use Rattle.listen.proofs.lump.Tie as tie
+use Rattle.listen.proofs.piece.Statement.{statement}
+use Rattle.listen.proofs.piece.Tie as tie
 
 abbrev Inv-loop : tie.InvT-loop
-Inv-loop s area₀ start now₀ left₀ area now left = Unit {0}
+Inv-loop w s store₀ area₀ counts₀ records₀ out₀ start now₀ left₀ store area counts records out now left = Unit {0}
 
 abbrev μ-loop : tie.MeasureT-loop
-μ-loop s area₀ start now₀ left₀ area now left = left
+μ-loop w s store₀ area₀ counts₀ records₀ out₀ start now₀ left₀ store area counts records out now left = left
 
 loop-holds : tie.Need-loop-holds Inv-loop μ-loop
 loop-holds c = search needs
@@ -17,8 +17,8 @@ wrapping-sub-u64-requires c κs = search needs
 part-requires : tie.Need-part-requires Inv-loop μ-loop
 part-requires c κs = search needs
 
-feed-requires : tie.Need-feed-requires Inv-loop μ-loop
-feed-requires c κs = search needs
+turn-requires : tie.Need-turn-requires Inv-loop μ-loop
+turn-requires c κs = search needs
 
 sub-left : tie.Need-sub-left Inv-loop μ-loop
 sub-left c = search needs
@@ -35,8 +35,8 @@ returns c = search needs
 returns-2 : tie.Need-returns-2 Inv-loop μ-loop
 returns-2 c = search needs
 
-pub lump-spec : {M : Type 1} → statement M
-lump-spec =
+pub piece-spec : {M : Type 1} → statement M
+piece-spec =
     tie.close
     (tie.spec
     Inv-loop
@@ -44,7 +44,7 @@ lump-spec =
     loop-holds
     wrapping-sub-u64-requires
     part-requires
-    feed-requires
+    turn-requires
     sub-left
     loop-less
     loop-again

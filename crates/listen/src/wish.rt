@@ -1,0 +1,76 @@
+// What the arguments ask for.
+use libc::STDERR_FILENO;
+
+// `file`: the number of the argument that names the file, 0 for standard input.
+pub struct Wish {
+    pub csv: bool,
+    pub octets: bool,
+    pub file: usize,
+    pub wrong: bool,
+}
+
+fn word(w: Wish, i: usize) -> Wish {
+    let mut buf = io::buffer();
+    let n = os::arg(i, &mut buf);
+    let mut v = w;
+    if check::same(&buf[..n], b"--csv") {
+        v.csv = true;
+        return v;
+    }
+    if check::same(&buf[..n], b"--octets") {
+        v.octets = true;
+        return v;
+    }
+    if buf[0] == 45 || w.file != 0 {
+        v.wrong = true;
+        return v;
+    }
+    v.file = i;
+    v
+}
+
+pub fn read() -> Wish {
+    let mut w = Wish {
+        csv: false,
+        octets: false,
+        file: 0,
+        wrong: false,
+    };
+    let n = os::arg_count();
+    let mut i = 1;
+    while i < n {
+        w = word(w, i);
+        i += 1;
+    }
+    w
+}
+
+fn say(s: &[u8]) {
+    io::write_all(STDERR_FILENO, s);
+}
+
+pub fn usage() {
+    say(
+        b"usage: listen [--octets] [FILE]    a line for each report, with --octets its 16 octets too\n",
+    );
+    say(b"       listen --csv [FILE]         a row for each value that was read or written\n");
+    say(b"FILE holds trunk octets as they came; without one they are read from standard input.\n");
+    say(
+        b"Such a recording has no silences, so a frame that was cut off hides the good ones behind it.\n",
+    );
+    say(b"A recording with silences (records of four octets) is for the program replay.\n");
+}
+
+// The file to read, or standard input; one that does not open is said, and answered below 0.
+pub fn open(file: usize) -> i32 {
+    if file == 0 {
+        return libc::STDIN_FILENO;
+    }
+    let mut buf = io::buffer();
+    let n = os::arg(file, &mut buf);
+    let fd = os::open_read(&buf[..n]);
+    if fd < 0 {
+        os::fail(&buf[..n]);
+    }
+    fd
+}
