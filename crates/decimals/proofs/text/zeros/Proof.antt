@@ -1,0 +1,50 @@
+use borrow.Author.Needs.{needs}
+use Prim.Native.Nat.{_≤_, _-_}
+use lib.ListN.{length}
+use mathlib.Core.Path.{_≡_}
+use Rattle.decimals.proofs.text.zeros.Statement.{statement}
+use Rattle.decimals.proofs.text.zeros.Tie as tie
+use Rattle.decimals.proofs.text.zeros.Reads as reads
+use Rattle.decimals.proofs.text.zeros.Lts as lts
+use Rattle.decimals.proofs.text.push.Reads as push-reads
+
+abbrev Inv-loop : tie.InvT-loop
+Inv-loop count out₀ at w₀ i₀ out w i = (w ≤ 40) × (length out ≡ length out₀)
+
+abbrev μ-loop : tie.MeasureT-loop
+μ-loop count out₀ at w₀ i₀ out w i = count - i
+
+loop-holds : tie.Need-loop-holds Inv-loop μ-loop
+loop-holds c = search needs
+
+push-requires : tie.Need-push-requires Inv-loop μ-loop
+push-requires c κs = search needs
+
+add-i : tie.Need-add-i Inv-loop μ-loop
+add-i c = search needs
+
+loop-less : tie.Need-loop-less Inv-loop μ-loop
+loop-less c = search needs
+
+loop-again : tie.Need-loop-again Inv-loop μ-loop
+loop-again c = search needs
+
+same-length : tie.Need-same-length Inv-loop μ-loop
+same-length c = search needs
+
+returns : tie.Need-returns Inv-loop μ-loop
+returns c = search needs
+
+pub zeros-spec : {M : Type 1} → statement M
+zeros-spec =
+    tie.close
+    (tie.spec
+    Inv-loop
+    μ-loop
+    loop-holds
+    push-requires
+    add-i
+    loop-less
+    loop-again
+    same-length
+    returns)
