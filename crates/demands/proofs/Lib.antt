@@ -14,3 +14,4 @@ pub mod HeaderRows
 pub mod SegmentRows
 pub mod TagRows
 pub mod StateOctets
+pub mod Damage

@@ -6,3 +6,4 @@ pub mod SegmentRows
 pub mod TagRows
 pub mod NetworkRows
 pub mod StateOctets
+pub mod Damage
