@@ -24,7 +24,8 @@ OutcomesExact = (r : Receiver) → Sound r → (es : List Event) → Bytes (came
 -- data .. is damage 4": each of the four exactly, and no other number
 abbrev pub DamageExact : Type 0
 DamageExact = (r : Receiver) → Sound r → (es : List Event) → Bytes (came (heldOf r) ++ es) → (q n : ℕ)
-    → ((ended q (readFrom r es) ≡ some (damage n)) ↔ OutcomeAt (came (heldOf r) ++ es) q (damage n)) × (ended q (readFrom r es) ≡ some (damage n) → (0 < n) × (n ≤ 4))
+    → ((ended q (readFrom r es) ≡ some (damage n)) ↔ OutcomeAt (came (heldOf r) ++ es) q (damage n))
+    × (ended q (readFrom r es) ≡ some (damage n) → (0 < n) × (n ≤ 4))
 
 -- at one place at most one outcome ends
 abbrev pub OneOutcome : Type 0
@@ -57,7 +58,7 @@ three = 0x55 ∷ 0xFF ∷ (threeHead ++ (0xD9 ∷ 0x01 ∷ 0x02 ∷ 0x03 ∷ [])
 abbrev pub workedTrunk : List Event
 workedTrunk =
     (octet 0x00 ∷ octet 0x55 ∷ octet 0x12 ∷ silence ∷ [])
-    ++ (came (token ++ (badToken ++ ((0x55 ∷ token) ++ (tooLong ++ ((three ++ (0x3B ∷ 0x9C ∷ [])) ++ ((three ++ (0x3B ∷ 0x9D ∷ [])) ++ (0x55 ∷ 0xFF ∷ 0x07 ∷ [])))))))
+    ++ (came (token ++ (badToken ++ ((0x55 ∷ token) ++ (tooLong ++ (three ++ (0x3B ∷ 0x9C ∷ (three ++ (0x3B ∷ 0x9D ∷ 0x55 ∷ 0xFF ∷ 0x07 ∷ []))))))))
     ++ ((silence ∷ [])
     ++ (came three
     ++ (silence ∷ octet 0xFF ∷ octet 0x00 ∷ []))))

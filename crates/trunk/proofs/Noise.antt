@@ -1,5 +1,5 @@
 -- Noise, and what a look for a preamble finds.
-use mathlib.Core.Path.{_≡_, refl, ap, ap₂, _∙_}
+use mathlib.Core.Path.{_≡_, ap, ap₂, _∙_}
 use mathlib.Core.Bool.{true, false}
 use mathlib.Core.List.{List, [], _∷_, _++_}
 use Prim.Native.Nat.{ℕ, _+_}
@@ -43,7 +43,8 @@ longer-noise e n es rest np stands t (f ∷ front) r same = np front r (cc)
 
 -- ---- what is found: a preamble behind noise; or there is none
 pub data Finds (p : ℕ) : List Event → Found → Type 0 where
-  finds : {es : List Event} {q : ℕ} (n rest : List Event) → NoPreamble n → es ≡ n ++ (octet 0x55 ∷ octet 0xFF ∷ rest) → q ≡ p + length n + 1 → Finds p es (found q rest)
+  finds : {es : List Event} {q : ℕ} (n rest : List Event) → NoPreamble n → es ≡ n ++ (octet 0x55 ∷ octet 0xFF ∷ rest) → q ≡ p + length n + 1
+      → Finds p es (found q rest)
   lacks : {es : List Event} → Finds p es nothing
 
 further : (p : ℕ) (e : Event) (es : List Event) {f : Found} → both (isOct 0x55 e) (starts 0xFF es) ≡ false → Finds (p + 1) es f → Finds p (e ∷ es) f

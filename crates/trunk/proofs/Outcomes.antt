@@ -21,7 +21,8 @@ use Rattle.trunk.proofs.Stands.{Tells, tells, passed, whole-some}
 use Rattle.trunk.proofs.Told.{regroup, read-sees}
 
 -- the bound on preambles bounds nothing: any that is not below the events that are left gives the same reading
-pub bound-free : (w : Kept) (p m : ℕ) (es : List Event) → length (w .head) ≡ 5 → length (w .store) ≡ most → length es ≤ m → readN m p w es ≡ readN (length es) p w es
+pub bound-free : (w : Kept) (p m : ℕ) (es : List Event) → length (w .head) ≡ 5 → length (w .store) ≡ most → length es ≤ m
+    → readN m p w es ≡ readN (length es) p w es
 bound-free w p m es lh ls l =
     sym (by-position m (w .head) (w .first) (w .store) p es lh ls l) ∙ by-position (length es) (w .head) (w .first) (w .store) p es lh ls (le-refl (length es))
 
@@ -33,7 +34,8 @@ told-here m p q w n xs rest lw ls np whole bs e =
     ap (ended q) (passed t n np m p q rest e) ∙ rw (eq-eqb q q refl)
 
 told-later : (m p q : ℕ) {w : Kept} (n : List Event) {xs : List Event} (es : List Event) {o o′ : Out} (t : Tells w xs o) → NoPreamble n
-    → p + (length n + length xs) ≤ q → ended q (readN m (p + (length n + length xs)) (t .left) es) ≡ some o′ → ended q (readN (suc m) p w (n ++ (xs ++ es))) ≡ some o′
+    → p + (length n + length xs) ≤ q → ended q (readN m (p + (length n + length xs)) (t .left) es) ≡ some o′
+    → ended q (readN (suc m) p w (n ++ (xs ++ es))) ≡ some o′
 told-later m p q n {xs} es t np l later =
     let long : length xs ≡ suc (suc (length (t .rest))) = ap length (t .opens) in
     let z = p + (length n + suc (length (t .rest))) in
@@ -50,8 +52,8 @@ more-spans : {f : List Event} (fr : Free f) (j : ℕ) → j ≤ spansAnd fr j
 more-spans (noise np) j = omega arith
 more-spans (behind n np whole fr) j = let l : j ≤ spansAnd fr j = more-spans fr j in omega arith
 
-stands-told : {f : List Event} (fr : Free f) {xs : List Event} {o : Out} → Whole xs o → (j p q : ℕ) (w : Kept) (rest : List Event) → length (w .head) ≡ 5 → length (w .store) ≡ most
-    → Bytes (f ++ (xs ++ rest)) → p + (length f + length xs) ≡ q + 1 → ended q (readN (spansAnd fr j) p w (f ++ (xs ++ rest))) ≡ some o
+stands-told : {f : List Event} (fr : Free f) {xs : List Event} {o : Out} → Whole xs o → (j p q : ℕ) (w : Kept) (rest : List Event)
+    → length (w .head) ≡ 5 → length (w .store) ≡ most → Bytes (f ++ (xs ++ rest)) → p + (length f + length xs) ≡ q + 1 → ended q (readN (spansAnd fr j) p w (f ++ (xs ++ rest))) ≡ some o
 stands-told (noise {es = n} np) {xs} whole j p q w rest lw ls bs e = told-here j p q w n xs rest lw ls np whole bs e
 stands-told (behind n {xs = ys} {es = es} np other fr) {xs} whole j p q w rest lw ls bs e =
     let later = es ++ (xs ++ rest) in
@@ -95,8 +97,9 @@ one-outcome es bs q o o′ a b =
     cc
 
 -- What a whole span, noise before it, does to the whole trace: the step tells its outcome and nothing else before it, and is hunting again behind it.
-pub span-steps : {w : Kept} {xs : List Event} {o : Out} → length (w .head) ≡ 5 → length (w .store) ≡ most → (t : Tells w xs o) (n : List Event) → NoPreamble n → (p z : ℕ) (more : List Event)
-    → p + (length n + length xs) ≡ z + 1 → steps p (at Hunting w) (n ++ (xs ++ more)) ≡ told z o (steps (z + 1) (at Hunting (t .left)) more)
+pub span-steps : {w : Kept} {xs : List Event} {o : Out} → length (w .head) ≡ 5 → length (w .store) ≡ most → (t : Tells w xs o) (n : List Event) → NoPreamble n
+    → (p z : ℕ) (more : List Event) → p + (length n + length xs) ≡ z + 1
+    → steps p (at Hunting w) (n ++ (xs ++ more)) ≡ told z o (steps (z + 1) (at Hunting (t .left)) more)
 span-steps {w} {xs} {o} lw ls t n np p z more e =
     let all = n ++ (xs ++ more) in
     let m = length all in

@@ -59,7 +59,8 @@ module _ (k : Read) (w : Kept) (lw : length (w .head) ≡ 5) where
       ap (afterHeader k w) (span-full 5 p six more (omega arith)) ∙ ap (λ (l : List ℕ). judged k (kept l (w .first) (w .store)) six (p + 5) more) own
 
   data-read : (h xs : List ℕ) (p : ℕ) (more : List Event) → Opens h
-      → afterHeader k w (span 5 p (came (h ++ (headerCheck h ∷ xs)) ++ more)) ≡ afterData k (kept h (w .first) (w .store)) (span (lengthOf h + 1) (p + 5 + 1) (came xs ++ more))
+      → afterHeader k w (span 5 p (came (h ++ (headerCheck h ∷ xs)) ++ more))
+      ≡ afterData k (kept h (w .first) (w .store)) (span (lengthOf h + 1) (p + 5 + 1) (came xs ++ more))
   data-read h xs p more o =
       let more-data : lengthOf h ≡ 0 → ⊥ = λ z. omega (arith, o .some) in
       ap (λ (l : List Event). afterHeader k w (span 5 p l)) (sym (head-on h (headerCheck h) xs more))
@@ -73,7 +74,8 @@ pub record Tells (w : Kept) (xs : List Event) (o : Out) : Type 0 where
   pub left : Kept
   pub head : length (left .head) ≡ 5
   pub store : length (left .store) ≡ most
-  pub reads : (k : Read) (p z : ℕ) (more : List Event) → p + length rest ≡ z + 1 → afterHeader k w (span 5 p (rest ++ more)) ≡ told z o (k (z + 1) left more)
+  pub reads : (k : Read) (p z : ℕ) (more : List Event) → p + length rest ≡ z + 1
+      → afterHeader k w (span 5 p (rest ++ more)) ≡ told z o (k (z + 1) left more)
 
 module _ (w : Kept) (lw : length (w .head) ≡ 5) (ls : length (w .store) ≡ most) where
   tells-bad-header : (h : List ℕ) (c : ℕ) → length h ≡ 5 → (headerRun headerStart (h ++ (c ∷ [])) ≡ headerLeft → ⊥) → Tells w (came (0x55 ∷ 0xFF ∷ (h ++ (c ∷ [])))) (damage 1)
@@ -86,7 +88,8 @@ module _ (w : Kept) (lw : length (w .head) ≡ 5) (ls : length (w .store) ≡ mo
         head = lh;
         store = ls;
         reads = λ k p z more e. header-read k w lw h c p more lh
-            ∙ rw (ne-eqb (headerRun headerStart (h ++ (c ∷ []))) headerLeft bad) (ap (λ (z : ℕ). told z (damage 1) (k (z + 1) (kept h (w .first) (w .store)) more)) (omega arith));
+            ∙ rw (ne-eqb (headerRun headerStart (h ++ (c ∷ []))) headerLeft bad)
+            (ap (λ (z : ℕ). told z (damage 1) (k (z + 1) (kept h (w .first) (w .store)) more)) (omega arith));
       }
 
   tells-too-long : (h : List ℕ) → length h ≡ 5 → most < lengthOf h → Tells w (came (headed h [])) (damage 2)
@@ -194,13 +197,15 @@ module _ (w : Kept) (lw : length (w .head) ≡ 5) (ls : length (w .store) ≡ mo
   unfolding dataCheck
   length-check xs = refl
 
-  tells-frame : (kind to from : ℕ) (d : List ℕ) → length d ≤ most → Octets (frameOctets kind to from d) → Tells w (came (frameOctets kind to from d)) (good (headOf kind to from (length d)) d)
+  tells-frame : (kind to from : ℕ) (d : List ℕ) → length d ≤ most → Octets (frameOctets kind to from d)
+      → Tells w (came (frameOctets kind to from d)) (good (headOf kind to from (length d)) d)
   unfolding frameOctets
   tells-frame kind to from [] fits os = tells-short (headOf kind to from 0) (length-headOf kind to from 0) (lengthOf-headOf kind to from 0)
   tells-frame kind to from (x ∷ d) fits os =
       let h = headOf kind to from (length (x ∷ d)) in
       let all : Octets ((x ∷ d) ++ dataCheck (x ∷ d)) = λ i. octets-right h (headerCheck h ∷ ((x ∷ d) ++ dataCheck (x ∷ d))) (λ j. os (suc (suc j))) (suc i) in
-      tells-data h (x ∷ d) (dataCheck (x ∷ d)) (headOf-opens kind to from (length (x ∷ d)) (omega arith) fits) (sym (lengthOf-headOf kind to from (length (x ∷ d))))
+      tells-data h (x ∷ d) (dataCheck (x ∷ d)) (headOf-opens kind to from (length (x ∷ d)) (omega arith) fits)
+      (sym (lengthOf-headOf kind to from (length (x ∷ d))))
       (length-check (x ∷ d)) (data-good (x ∷ d) (octets-left (x ∷ d) (dataCheck (x ∷ d)) all))
 
   tells-wrong-header : (h : List ℕ) (c : ℕ) → length h ≡ 5 → (c ≡ headerCheck h → ⊥) → Octets (0x55 ∷ 0xFF ∷ (h ++ (c ∷ []))) → Tells w (came (0x55 ∷ 0xFF ∷ (h ++ (c ∷ [])))) (damage 1)
@@ -222,7 +227,8 @@ module _ (w : Kept) (lw : length (w .head) ≡ 5) (ls : length (w .store) ≡ mo
   tells more (cut-data h xs o l) bs = tells-cut-data h xs o l
 
 -- the same, noise before it
-pub passed : {w : Kept} {xs : List Event} {o : Out} (t : Tells w xs o) (n : List Event) → NoPreamble n → (m p z : ℕ) (more : List Event) → p + (length n + length xs) ≡ z + 1
+pub passed : {w : Kept} {xs : List Event} {o : Out} (t : Tells w xs o) (n : List Event) → NoPreamble n → (m p z : ℕ) (more : List Event)
+    → p + (length n + length xs) ≡ z + 1
     → readN (suc m) p w (n ++ (xs ++ more)) ≡ told z o (readN m (z + 1) (t .left) more)
 passed {w} {xs} t n np m p z more e =
     let long : length xs ≡ suc (suc (length (t .rest))) = ap length (t .opens) in

@@ -21,7 +21,8 @@ use Rattle.runs.specs.Run.Trace.{told}
 use Rattle.frames.specs.declared.Receiver.{Receiver}
 use Rattle.frames.specs.Layout.{headOf, dataPart, frameOctets}
 use Rattle.frames.specs.Step.{most, lengthOf}
-use Rattle.trunk.specs.Reading.{Out, Kept, withHead, withData, Found, ends55, find, Span, push, span, Read, afterData, judged, afterHeader, afterFound, readN, came}
+use Rattle.trunk.specs.Reading.{Out, Kept, withHead, withData, Found, ends55, Span, push, span, Read}
+use Rattle.trunk.specs.Reading.{afterData, judged, afterHeader, afterFound, readN, came}
 use Rattle.trunk.specs.Reading.Out.{good, damage}
 use Rattle.trunk.specs.Reading.Span.{full, cut, open-ended}
 use Rattle.trunk.specs.Spans.{Bytes, NoPreamble, headed, Opens, Whole, Free}
@@ -36,7 +37,8 @@ use Rattle.trunk.proofs.Stands.{head-on, laid-length}
 -- ---- what a span of n + 1 octets from place p on is
 pub data Spans (n p : ℕ) : List Event → Span → Type 0 where
   fills : {es : List Event} {q : ℕ} (xs : List ℕ) (more : List Event) → es ≡ came xs ++ more → length xs ≡ n + 1 → q ≡ p + n → Spans n p es (full xs q more)
-  breaks : {es : List Event} {q : ℕ} (xs : List ℕ) (more : List Event) → es ≡ came xs ++ (silence ∷ more) → length xs ≤ n → q ≡ p + length xs → Spans n p es (cut xs q more)
+  breaks : {es : List Event} {q : ℕ} (xs : List ℕ) (more : List Event) → es ≡ came xs ++ (silence ∷ more) → length xs ≤ n → q ≡ p + length xs
+      → Spans n p es (cut xs q more)
   lasts : {es : List Event} (xs : List ℕ) → Spans n p es (open-ended xs)
 
 pushed : (n p x : ℕ) (es : List Event) {sp : Span} → Spans n (p + 1) es sp → Spans (suc n) p (octet x ∷ es) (push x sp)
@@ -72,7 +74,8 @@ last-two : (n : ℕ) (xs : List ℕ) → length xs ≡ n + 1 + 1 → xs ≡ take
 last-two n xs e =
     sym (take-append-drop n xs)
     ∙ ap (λ (l : List ℕ). take n xs ++ l) (drop-cons xs n 0 (omega arith)
-    ∙ ap (λ (l : List ℕ). getD xs n 0 ∷ l) (drop-cons xs (suc n) 0 (omega arith) ∙ ap (λ (l : List ℕ). getD xs (suc n) 0 ∷ l) (drop-of-length-le xs {i = suc (suc n)} (omega arith))))
+    ∙ ap (λ (l : List ℕ). getD xs n 0 ∷ l)
+    (drop-cons xs (suc n) 0 (omega arith) ∙ ap (λ (l : List ℕ). getD xs (suc n) 0 ∷ l) (drop-of-length-le xs {i = suc (suc n)} (omega arith))))
 
 -- data and two check octets, all there
 module _ (h xs : List ℕ) (o : Opens h) (l : length xs ≡ lengthOf h + 1 + 1) (oh : Octets h) (ox : Octets xs) where
@@ -96,7 +99,8 @@ module _ (h xs : List ℕ) (o : Opens h) (l : length xs ≡ lengthOf h + 1 + 1) 
 
   right-data : dataRun dataStart xs ≡ dataLeft → Whole (came (headed h xs)) (good h body)
   right-data e =
-      let check : first ∷ second ∷ [] ≡ dataCheck body = data-only body body-octets first second (ox (lengthOf h)) (ox (suc (lengthOf h))) (ap (dataRun dataStart) (sym parts) ∙ e) in
+      let check : first ∷ second ∷ [] ≡ dataCheck body =
+      data-only body body-octets first second (ox (lengthOf h)) (ox (suc (lengthOf h))) (ap (dataRun dataStart) (sym parts) ∙ e) in
       let n : length body ≡ lengthOf h = body-length in
       let whole : xs ≡ dataPart body = parts ∙ ap (λ (b : List ℕ). body ++ b) check ∙ sym (some-data body (omega (arith, o .some))) in
       subst (λ (b : List ℕ). Whole (came (headed h b)) (good h body)) (sym whole) (frame-whole h body (o .five) oh (sym n) (omega (arith, o .fits)))
@@ -131,7 +135,8 @@ unseen p es q o e = impossible (cc)
 pub regroup : (a b c d : List Event) → a ++ (b ++ (c ++ d)) ≡ (a ++ (b ++ c)) ++ d
 regroup a b c d = simp append-assoc
 
-module _ (p z : ℕ) (es n xs more : List Event) {o : Out} (np : NoPreamble n) (whole : Whole xs o) (stands : es ≡ n ++ (xs ++ more)) (place : p + (length n + length xs) ≡ z + 1) where
+module _ (p z : ℕ) (es n xs more : List Event) {o : Out} (np : NoPreamble n) (whole : Whole xs o) (stands : es ≡ n ++ (xs ++ more))
+    (place : p + (length n + length xs) ≡ z + 1) where
   -- an outcome further on
   later-from : (q : ℕ) (o′ : Out) → From (z + 1) more q o′ → From p es q o′
   later-from q o′ f =
@@ -179,13 +184,17 @@ module _ (k : Read) (sees : (z : ℕ) (v : Kept) (more : List Event) → length 
       let all : es ≡ n ++ ((came (headed h xs) ++ (silence ∷ [])) ++ more) =
       stands
       ∙ ap (λ (l : List Event). n ++ (octet 0x55 ∷ octet 0xFF ∷ l))
-      (ap (λ (l : List Event). came (h ++ (headerCheck h ∷ [])) ++ l) there ∙ head-on h (headerCheck h) xs (silence ∷ more) ∙ sym (append-assoc (came (h ++ (headerCheck h ∷ xs))) (silence ∷ []) more)) in
+      (ap (λ (l : List Event). came (h ++ (headerCheck h ∷ [])) ++ l) there
+      ∙ head-on h (headerCheck h) xs (silence ∷ more)
+      ∙ sym (append-assoc (came (h ++ (headerCheck h ∷ xs))) (silence ∷ []) more)) in
       seen q (came (headed h xs) ++ (silence ∷ [])) more (withData xs w) lh (cut-data h xs o (omega arith)) all (simp (length-append, length-came) (omega arith))
   data-sees z w rest o stands place (fills {q = q} xs more there l at) =
       let h = w .head in
       let lh : length h ≡ 5 = o .five in
       let all : es ≡ n ++ (came (headed h xs) ++ more) =
-      stands ∙ ap (λ (l : List Event). n ++ (octet 0x55 ∷ octet 0xFF ∷ l)) (ap (λ (l : List Event). came (h ++ (headerCheck h ∷ [])) ++ l) there ∙ head-on h (headerCheck h) xs more) in
+      stands
+      ∙ ap (λ (l : List Event). n ++ (octet 0x55 ∷ octet 0xFF ∷ l))
+      (ap (λ (l : List Event). came (h ++ (headerCheck h ∷ [])) ++ l) there ∙ head-on h (headerCheck h) xs more) in
       let os : Octets (headed h xs) = bytes-came (headed h xs) more (bytes-behind n (came (headed h xs) ++ more) (subst Bytes all bs)) in
       let oh : Octets h = octets-left h (headerCheck h ∷ xs) (λ i. os (suc (suc i))) in
       let ox : Octets xs = λ i. octets-right h (headerCheck h ∷ xs) (λ j. os (suc (suc j))) (suc i) in
@@ -207,11 +216,12 @@ module _ (k : Read) (sees : (z : ℕ) (v : Kept) (more : List Event) → length 
       (λ z. seen q (came (headed h [])) more w lh (frame-whole h [] lh oh (eqb-true (lengthOf h) 0 z) (omega arith)) stands (omega arith))
       (λ z.
       let some : lengthOf h ≡ 0 → ⊥ = eqb-false (lengthOf h) 0 z in
-      data-sees (q + 1) w more (record { five = lh; some = omega arith; fits = ltb-false most (lengthOf h) t }) stands (omega arith) (span-view (lengthOf h + 1) (q + 1) more)))
+      data-sees (q + 1) w more (record { five = lh; some = omega arith; fits = ltb-false most (lengthOf h) t }) stands (omega arith)
+      (span-view (lengthOf h + 1) (q + 1) more)))
 
   -- the header's check octet
-  judged-sees : (q c : ℕ) (w : Kept) (more : List Event) → length (w .head) ≡ 5 → es ≡ n ++ (came (0x55 ∷ 0xFF ∷ (w .head ++ (c ∷ []))) ++ more) → q ≡ p + (length n + 7)
-      → Sees p es (judged k w (w .head ++ (c ∷ [])) q more)
+  judged-sees : (q c : ℕ) (w : Kept) (more : List Event) → length (w .head) ≡ 5 → es ≡ n ++ (came (0x55 ∷ 0xFF ∷ (w .head ++ (c ∷ []))) ++ more)
+      → q ≡ p + (length n + 7) → Sees p es (judged k w (w .head ++ (c ∷ [])) q more)
   judged-sees q c w more lh stands place =
       let h = w .head in
       let six = h ++ (c ∷ []) in
@@ -220,10 +230,12 @@ module _ (k : Read) (sees : (z : ℕ) (v : Kept) (more : List Event) → length 
       let test = eqb (headerRun headerStart six) headerLeft in
       pick-cases (Sees p es) (non test)
       (λ t. seen q (came (0x55 ∷ 0xFF ∷ six)) more w lh
-      (bad-header h c lh (λ e. eqb-false (headerRun headerStart six) headerLeft (non-true test t) (ap (λ (c : ℕ). headerRun headerStart (h ++ (c ∷ []))) e ∙ header-good h)))
+      (bad-header h c lh
+      (λ e. eqb-false (headerRun headerStart six) headerLeft (non-true test t) (ap (λ (c : ℕ). headerRun headerStart (h ++ (c ∷ []))) e ∙ header-good h)))
       stands (omega arith))
       (λ t.
-      let right : c ≡ headerCheck h = header-only h c (octets-right h (c ∷ []) (λ i. os (suc (suc i))) 0) (eqb-true (headerRun headerStart six) headerLeft (non-false test t)) in
+      let right : c ≡ headerCheck h =
+      header-only h c (octets-right h (c ∷ []) (λ i. os (suc (suc i))) 0) (eqb-true (headerRun headerStart six) headerLeft (non-false test t)) in
       good-sees q w more lh (stands ∙ ap (λ (c : ℕ). n ++ (came (0x55 ∷ 0xFF ∷ (h ++ (c ∷ []))) ++ more)) right) place)
 
   -- the header
@@ -246,7 +258,8 @@ module _ (k : Read) (sees : (z : ℕ) (v : Kept) (more : List Event) → length 
 
 found-sees : (k : Read) → ((z : ℕ) (v : Kept) (more : List Event) → length (v .head) ≡ 5 → Bytes more → Sees z more (k z v more))
     → (p : ℕ) (es : List Event) (w : Kept) (b : Bool) {f : Found} → length (w .head) ≡ 5 → Bytes es → Finds p es f → Sees p es (afterFound k w b f)
-found-sees k sees p es w b lw bs (finds {q = q} n rest np stands place) = header-sees k sees p es n np bs (q + 1) w rest lw stands (omega arith) (span-view 5 (q + 1) rest)
+found-sees k sees p es w b lw bs (finds {q = q} n rest np stands place) =
+    header-sees k sees p es n np bs (q + 1) w rest lw stands (omega arith) (span-view 5 (q + 1) rest)
 found-sees k sees p es w b lw bs lacks = unseen p es
 
 -- each outcome that the reading tells is a whole span's
