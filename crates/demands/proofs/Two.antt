@@ -11,7 +11,8 @@ use Rattle.octets.specs.Laid.{Laid, laid-as}
 use Rattle.octets.specs.declared.Written.{Written}
 use Rattle.octets.specs.declared.Written.the-variants.{Wrote}
 use Rattle.sums.proofs.Good.{header-exact, data-exact}
-use Rattle.trunk.proofs.Laws.{frames-from}
+use Rattle.trunk.specs.Reading.Out.{good}
+use Rattle.trunk.proofs.Laws.{outcomes-from}
 use Rattle.npdu.specs.Layout as Network
 use Rattle.npdu.specs.Reading.{readNpdu}
 use Rattle.npdu.proofs.Exact.{npdu-exactly}
@@ -43,7 +44,7 @@ pub data-check-exact : DataCheckExact
 data-check-exact = data-exact
 
 pub frames-exact : FramesExact
-frames-exact = frames-from
+frames-exact r so es bs q h d = outcomes-from r so es bs q (good h d)
 
 -- a writer without a fault lays its octets, by whatever name
 laid-back : (f : ℕ) (o p area later : List ℕ) (r : Written) → f ≡ 0 → o ≡ p → length p ≤ length area → Laid f o area r later → (r ≡ Wrote (length p)) × (later ≡ p ++ drop (length p) area)

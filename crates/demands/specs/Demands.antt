@@ -21,9 +21,9 @@ use Rattle.frames.specs.declared.Outcome.the-variants.{Quiet}
 use Rattle.frames.specs.declared.Receiver.{Receiver}
 use Rattle.frames.specs.declared.Fed.{Fed as ReceiverFed}
 use Rattle.frames.specs.declared.Fell.{Fell as ReceiverFell}
-use Rattle.trunk.specs.Reading.{Out, keptOf, heldOf, came, readFrom}
+use Rattle.trunk.specs.Reading.{Out, heldOf, came, readFrom}
 use Rattle.trunk.specs.Reading.Out.{good}
-use Rattle.trunk.specs.Frames.{FrameAt, Bytes}
+use Rattle.trunk.specs.Spans.{Bytes, OutcomeAt}
 use Rattle.trunk.specs.Demand.{Sound, reading, hurtBy}
 use Rattle.npdu.specs.declared.Npdu.{Npdu}
 use Rattle.npdu.specs.declared.Reading.{Reading}
@@ -281,10 +281,11 @@ HeaderCheckExact = (xs : List ℕ) (c : ℕ) → c < 256 → (headerRun headerSt
 abbrev pub DataCheckExact : Type 0
 DataCheckExact = (xs : List ℕ) → Octets xs → (a b : ℕ) → a < 256 → b < 256 → (dataRun dataStart (xs ++ (a ∷ b ∷ [])) ≡ dataLeft) ↔ (a ∷ b ∷ [] ≡ dataCheck xs)
 
--- a good frame ends at a place of a recording exactly when its layout stands there, up to that place, with no frame open where it begins
+-- a good frame ends at a place of a recording exactly when its layout stands there, up to that place, with no frame open where it begins (`Damage` has
+-- the same of every outcome)
 abbrev pub FramesExact : Type 0
 FramesExact = (r : Receiver) → Sound r → (es : List Event) → Bytes (came (heldOf r) ++ es) → (q : ℕ) (h d : List ℕ)
-    → (ended q (readFrom r es) ≡ some (good h d)) ↔ FrameAt (keptOf r) (came (heldOf r) ++ es) q h d
+    → (ended q (readFrom r es) ≡ some (good h d)) ↔ OutcomeAt (came (heldOf r) ++ es) q (good h d)
 
 -- ---- the network header: read with what follows it exactly when its rules hold and its layout stands in front
 abbrev pub NetworkExact : Type 0
