@@ -1,6 +1,7 @@
 // Big numbers: forty limbs of 32 bits, low limb first, of which the first n are in use.
 ghost use mathlib.Core.Path.{_≡_};
 ghost use Prim.Native.Nat.{_+_, _*_, _/_, _%_, _≤_, _<_};
+ghost use Rattle.decimals.specs.Promises.{Scaled, Added, Taken};
 
 // A limb times a factor, and what was carried.
 fn product(x: u32, by: u32, carry: u32) -> u64
@@ -23,9 +24,10 @@ fn high(t: u64) -> u32
     (t / 4294967296) as u32
 }
 
-// Multiplies a number; what does not fit its n limbs is lost.
-pub fn scale(a: &mut [u32; 40], n: usize, by: u32)
+// Multiplies a number, and answers what does not fit its n limbs.
+pub fn scale(a: &mut [u32; 40], n: usize, by: u32) -> u32
     requires { ⌜ n ≤ 40 ⌝ }
+    ensures { λ r. ⌜ Scaled (now (a .entry)) (now (a .exit)) n by r ⌝ }
 {
     let mut carry: u32 = 0;
     let mut i: usize = 0;
@@ -35,6 +37,7 @@ pub fn scale(a: &mut [u32; 40], n: usize, by: u32)
         carry = high(t);
         i += 1;
     }
+    carry
 }
 
 // Two limbs and a carry.
@@ -44,9 +47,10 @@ fn sum(x: u32, y: u32, carry: u32) -> u64
     (x as u64) + (y as u64) + (carry as u64)
 }
 
-// Adds b to a.
-pub fn add(a: &mut [u32; 40], b: &[u32; 40], n: usize)
+// Adds b to a, and answers what does not fit.
+pub fn add(a: &mut [u32; 40], b: &[u32; 40], n: usize) -> u32
     requires { ⌜ n ≤ 40 ⌝ }
+    ensures { λ r. ⌜ Added (now (a .entry)) (now (b .entry)) (now (a .exit)) n r ⌝ }
 {
     let mut carry: u32 = 0;
     let mut i: usize = 0;
@@ -56,26 +60,29 @@ pub fn add(a: &mut [u32; 40], b: &[u32; 40], n: usize)
         carry = high(t);
         i += 1;
     }
+    carry
 }
 
 // What is left of a limb that lends y and a borrow, above 2^32: so that no difference falls below 0.
 fn difference(x: u32, y: u32, borrow: u32) -> u64
     requires { ⌜ borrow ≤ 1 ⌝ }
-    ensures { λ r. ⌜ r + y + borrow ≡ x + 4294967296 ⌝ }
+    ensures { λ r. ⌜ (r + y + borrow ≡ x + 4294967296) × (r < 8589934592) ⌝ }
 {
     (x as u64) + 4294967296 - (y as u64) - (borrow as u64)
 }
 
 // Whether a difference had to borrow: it stayed below 2^32.
 fn borrowed(t: u64) -> u32
-    ensures { λ r. ⌜ r ≤ 1 ⌝ }
+    requires { ⌜ t < 8589934592 ⌝ }
+    ensures { λ r. ⌜ (r ≤ 1) × (t % 4294967296 + 4294967296 ≡ t + r * 4294967296) ⌝ }
 {
     if t < 4294967296 { 1 } else { 0 }
 }
 
-// Takes b from a, which is not smaller.
-pub fn subtract(a: &mut [u32; 40], b: &[u32; 40], n: usize)
+// Takes b from a, and answers what was borrowed from beyond: 1 where b is larger.
+pub fn subtract(a: &mut [u32; 40], b: &[u32; 40], n: usize) -> u32
     requires { ⌜ n ≤ 40 ⌝ }
+    ensures { λ r. ⌜ Taken (now (a .entry)) (now (b .entry)) (now (a .exit)) n r ⌝ }
 {
     let mut borrow: u32 = 0;
     let mut i: usize = 0;
@@ -85,6 +92,7 @@ pub fn subtract(a: &mut [u32; 40], b: &[u32; 40], n: usize)
         borrow = borrowed(t);
         i += 1;
     }
+    borrow
 }
 
 // 0: a is smaller than b; 1: they are equal; 2: a is larger.

@@ -1,0 +1,21 @@
+-- What the functions on big numbers promise: a number of n limbs before, the same after, and what is answered.
+use Prim.Native.Nat.{ℕ, _+_, _*_, _^_, _≤_}
+use mathlib.Core.Path.{_≡_}
+use mathlib.Core.List.{List}
+use lib.ListN.{length}
+use Rattle.decimals.specs.Worth.{worth}
+
+-- the product, with what does not fit
+pub record Scaled (before after : List ℕ) (n by over : ℕ) : Type 0 where
+  pub long : length after ≡ length before
+  pub exact : n ≤ length before → worth after n + over * 4294967296 ^ n ≡ by * worth before n
+
+-- the sum, with what does not fit
+pub record Added (before other after : List ℕ) (n over : ℕ) : Type 0 where
+  pub long : length after ≡ length before
+  pub exact : n ≤ length before → worth after n + over * 4294967296 ^ n ≡ worth before n + worth other n
+
+-- the difference, with what is borrowed from beyond
+pub record Taken (before other after : List ℕ) (n borrowed : ℕ) : Type 0 where
+  pub long : length after ≡ length before
+  pub exact : n ≤ length before → worth after n + worth other n ≡ worth before n + borrowed * 4294967296 ^ n
