@@ -56,10 +56,12 @@ module _ (s : List ℕ) (at : ℕ) (t : Tag) (e : t ≡ headAt s at) where
     pub item-closing : (n p : ℕ) → t ≡ Closing n p → (area : List ℕ) → ItemSays s at d i area area (Closed n p (i + 1))
     item-closing n p q area = Steps.item-shut s at i d room n p area (sym e ∙ q)
 
-    pub item-alone : (k n v p l : ℕ) → t ≡ Item k n v p l → (area later : List ℕ) → later ≡ putRecord area i (rec k n d v p l) → ItemSays s at d i area later (Next (p + l) (i + 1))
+    pub item-alone : (k n v p l : ℕ) → t ≡ Item k n v p l → (area later : List ℕ) → later ≡ putRecord area i (rec k n d v p l)
+        → ItemSays s at d i area later (Next (p + l) (i + 1))
     item-alone k n v p l q area later h = Steps.item-plain s at i d room k n v p l area later (sym e ∙ q) h
 
-    pub item-opens : (n p : ℕ) → t ≡ Opening n p → d < deepest → (l l1 l2 : List ℕ) → l1 ≡ putRecord l i (rec 2 n d 0 p 0) → (r : Step) → GroupSays s p n d (i + 1) l1 l2 r → ItemSays s at d i l l2 r
+    pub item-opens : (n p : ℕ) → t ≡ Opening n p → d < deepest → (l l1 l2 : List ℕ) → l1 ≡ putRecord l i (rec 2 n d 0 p 0) → (r : Step)
+        → GroupSays s p n d (i + 1) l1 l2 r → ItemSays s at d i l l2 r
     item-opens n p q h l l1 l2 f r g = Steps.item-open s at i d room n p (sym e ∙ q) h l l1 l2 f r g
 
 -- ---- group n, read from `from` on after j items into the area l₀: at a later place, after i items, what is said of the rest is said of the whole
@@ -88,7 +90,8 @@ module _ (s : List ℕ) (from n d j : ℕ) (l₀ l : List ℕ) (at i : ℕ) (so 
           whole = λ later r w. so .whole later r (Steps.group-next s at n d i here l l1 q says p k e later r w);
         }
 
-    pub group-shuts : (m p k : ℕ) → q ≡ Closed m p k → m ≡ n → (later : List ℕ) → later ≡ putRecord l1 i (rec 3 n d 0 p 0) → GroupSays s from n d j l₀ later (Next p k)
+    pub group-shuts : (m p k : ℕ) → q ≡ Closed m p k → m ≡ n → (later : List ℕ) → later ≡ putRecord l1 i (rec 3 n d 0 p 0)
+        → GroupSays s from n d j l₀ later (Next p k)
     group-shuts m p k e own later h = so .whole later (Next p k) (Steps.group-shut s at n d i here l l1 q says m p k e own later h)
 
     pub group-differs : (m p k : ℕ) → q ≡ Closed m p k → (m ≡ n → ⊥) → Stops s d (fromGroup from n j) 35

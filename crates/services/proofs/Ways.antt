@@ -46,7 +46,8 @@ module _ (s : List ℕ) (at : ℕ) (rs : List Rec) (w : Left s at rs) where
     stops-item x e = Places.part-stops s at (wanted kind number rule value) q says e next rs w
 
   module _ (number low high : ℕ) (next : Bool → ℕ → List Rec → Answer) (q : OptionalPart) (says : OptionalSays s at (optionalPart s number low high) q) where
-    pub reads-number : (i : Optional) (to : ℕ) → q ≡ OptionalPart.Is i to → (r : Answer) → Answers s to (next (i .present) (i .value)) r → r ≡ optionalNumber s number low high next rs
+    pub reads-number : (i : Optional) (to : ℕ) → q ≡ OptionalPart.Is i to → (r : Answer) → Answers s to (next (i .present) (i .value)) r
+        → r ≡ optionalNumber s number low high next rs
     reads-number i to e r h = Places.option-goes s at (optionalPart s number low high) q says e (λ i. next (i .present) (i .value)) r h rs w
 
     pub stops-number : (x : ℕ) → q ≡ OptionalPart.Refused x → Refused x ≡ optionalNumber s number low high next rs
@@ -69,7 +70,8 @@ module _ (s : List ℕ) (at : ℕ) (rs : List Rec) (w : Left s at rs) where
 pub ruleset in-turn = (reads-item, stops-item, reads-number, stops-number, reads-target, stops-target, reads-group, stops-group)
 
 -- a target, after its object and its property
-pub target-ends : (s : List ℕ) (q : Part) → PartSays s 0 (contextObject s 0) q → (v a : ℕ) → q ≡ Part.Is v a → (p : Part) → PartSays s a (contextNumber s 1 0 anyNumber) p
+pub target-ends : (s : List ℕ) (q : Part) → PartSays s 0 (contextObject s 0) q → (v a : ℕ) → q ≡ Part.Is v a → (p : Part)
+    → PartSays s a (contextNumber s 1 0 anyNumber) p
     → (property b : ℕ) → p ≡ Part.Is property b → (t : TargetPart) → TargetSays s b (indexPart s v property) t → TargetSays s 0 (targetParts s) t
 target-ends s q h v a e p k property b f t w =
     Places.target-rest s a b v property (Places.part-goes s 0 (contextObject s 0) q h e) (Places.part-goes s a (contextNumber s 1 0 anyNumber) p k f) t w
@@ -78,7 +80,8 @@ target-ends s q h v a e p k property b f t w =
 pub small-part : (b : Width) (v to : ℕ) (q : Part) → q ≡ Part.Is v to → (high : ℕ) → Topped high q → ltb high (2 ^ bits b) ≡ true → Fits b v
 small-part b v to q e high h l = record { fits = omega (arith, Places.topped high q h e, ltb-true high (2 ^ bits b) l) }
 
-pub small-number : (b : Width) (i : Optional) (to : ℕ) (q : OptionalPart) → q ≡ OptionalPart.Is i to → (high : ℕ) → OptionalTopped high q → ltb high (2 ^ bits b) ≡ true → Fits b (i .value)
+pub small-number : (b : Width) (i : Optional) (to : ℕ) (q : OptionalPart) → q ≡ OptionalPart.Is i to → (high : ℕ) → OptionalTopped high q
+    → ltb high (2 ^ bits b) ≡ true → Fits b (i .value)
 small-number b i to q e high h l = record { fits = omega (arith, Places.option-topped high q h e, ltb-true high (2 ^ bits b) l) }
 
 -- ---- the wanted item, t being the head at the place
@@ -153,10 +156,12 @@ module _ (s : List ℕ) (at kind number : ℕ) (w : Found) (e : w ≡ foundIn ki
 
     module _ (low high x : ℕ) (k : x ≡ numberRule s low high (rec 0 0 0 0 p l)) where
       pub number-breaks : 0 < x → Stops s at (wanted kind number (numberRule s low high) (numberOf s)) x
-      number-breaks h = Places.broken s at kind number p l (sym e ∙ q) (numberRule s low high) x h (λ v. Places.number-bare s low high kind number 0 v p l ∙ sym k)
+      number-breaks h =
+          Places.broken s at kind number p l (sym e ∙ q) (numberRule s low high) x h (λ v. Places.number-bare s low high kind number 0 v p l ∙ sym k)
 
       pub number-keeps : x ≤ 0 → (v : ℕ) → v ≡ valueAt s p l → Goes s at (wanted kind number (numberRule s low high) (numberOf s)) v (p + l)
-      number-keeps h v f = Places.taken s at kind number p l (sym e ∙ q) (numberRule s low high) (λ v. Places.number-none s low high kind number 0 v p l x k h) v f
+      number-keeps h v f =
+          Places.taken s at kind number p l (sym e ∙ q) (numberRule s low high) (λ v. Places.number-none s low high kind number 0 v p l x k h) v f
 
     pub object-breaks : (l ≡ 4 → ⊥) → Stops s at (wanted kind number objectRule (numberOf s)) 41
     unfolding objectRule
@@ -240,7 +245,8 @@ module _ (s : List ℕ) where
   unfolding whoIs
   who-limited b e here r h rs w = rw (← here rs w, e) (h rs w)
 
-  pub who-any : (b : Bool) → b ≡ false → Presence s 0 0 b → (r : Answer) → Answers s 0 (last (WhoIs (record { limited = false; low = 0; high = 0 }))) r → Answers s 0 (whoIs s) r
+  pub who-any : (b : Bool) → b ≡ false → Presence s 0 0 b → (r : Answer) → Answers s 0 (last (WhoIs (record { limited = false; low = 0; high = 0 }))) r
+      → Answers s 0 (whoIs s) r
   unfolding whoIs
   who-any b e here r h rs w = rw (← here rs w, e) (h rs w)
 
