@@ -4,6 +4,7 @@ pub mod Onward
 pub mod Steps
 pub mod Walk
 pub mod RecordOctets
+pub mod Ways
 pub mod Listing
 pub mod Left
 pub mod Exact

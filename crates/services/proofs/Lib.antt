@@ -1,4 +1,5 @@
 pub mod Places
+pub mod Ways
 pub mod Spelling
 pub mod Groups
 pub mod Things

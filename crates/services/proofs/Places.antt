@@ -3,7 +3,7 @@ use Prim.Native.Nat.{ℕ, _+_, _-_, _≤_, _<_}
 use native.Mathlib.Omega.{arith}
 use mathlib.Core.Path.{_≡_, refl, sym, subst, _∙_}
 use mathlib.Core.List.{List, [], _∷_, _++_}
-use mathlib.Core.Bool.{Bool, true, false}
+use mathlib.Core.Bool.{true, false}
 use lib.ListN.{length}
 use lib.Dec.{ltb, leb, eqb}
 use borrow.Author.Tests.{lt-ltb, ltb-false, eqb-true, eqb-false, eq-eqb, ne-eqb, leb-true, leb-false}
@@ -28,13 +28,12 @@ use Rattle.items.proofs.Left.{left-all, left-end, left-refused, left-closing, l
 use Rattle.items.proofs.Machine.{more-good}
 use Rattle.items.proofs.Onward.{within-past}
 use Rattle.items.proofs.Steps.{tag-in}
-use Rattle.services.specs.Parts.{Then, is, present, wanted, numberOf, numberRule, anyNumber, contextNumber, contextObject, optionalNumber, afterGroup, group, last}
-use Rattle.services.specs.Reading.{target, targetParts, layoutFor, afterTags, readService}
-use Rattle.services.specs.Places.{foundIn, Answers, Goes, Stops, Presence, optionalPart, indexPart, priorityPart, Topped, OptionalTopped, PartSays, OptionalSays, TargetSays, ValueSays}
+use Rattle.services.specs.Parts.{Then, is, present, wanted, numberOf, numberRule, anyNumber, contextNumber, contextObject, afterGroup, group, last}
+use Rattle.services.specs.Reading.{targetParts, layoutFor, afterTags, readService}
+use Rattle.services.specs.Places.{foundIn, Answers, Goes, Stops, Presence, indexPart, Topped, OptionalTopped, PartSays, OptionalSays, TargetSays, ValueSays}
 use Rattle.services.specs.declared.Answer.{Answer}
 use Rattle.services.specs.declared.Answer.the-variants.{Refused}
 use Rattle.services.specs.declared.Service.{Service}
-use Rattle.services.specs.declared.Service.the-variants.{WriteProperty}
 use Rattle.services.specs.declared.Target.{Target}
 use Rattle.services.specs.declared.Span.{Span}
 use Rattle.services.specs.declared.parts.Part.{Part}
@@ -256,36 +255,6 @@ module _ (s : List ℕ) (at n p number : ℕ) (e : headAt s at ≡ Opening n p) 
       let q : One.Refused x ≡ One.Next (o .closes .to) = f ∙ end-is s at n p rs o in
       let z : _≡_ {A = ℕ} 0 1 = cc q in
       absurd (omega arith)
-
--- an optional number
-module _ (s : List ℕ) (at number low high : ℕ) where
-  pub optional-goes : (b : Bool) → Presence s at number b → b ≡ true → (v to : ℕ) → Goes s at (contextNumber s number low high) v to → Goes s at (optionalPart s number low high) (record { present = true; value = v }) to
-  unfolding optionalNumber
-  optional-goes b p e v to g next r h rs w = rw (← p rs w, e) (g (λ v. next (record { present = true; value = v })) r h rs w)
-
-  pub optional-stops : (b : Bool) → Presence s at number b → b ≡ true → (x : ℕ) → Stops s at (contextNumber s number low high) x → Stops s at (optionalPart s number low high) x
-  unfolding optionalNumber
-  optional-stops b p e x g next rs w = rw (← p rs w, e) (g (λ v. next (record { present = true; value = v })) rs w)
-
-  pub optional-none : (b : Bool) → Presence s at number b → b ≡ false → Goes s at (optionalPart s number low high) (record { present = false; value = 0 }) at
-  unfolding optionalNumber
-  optional-none b p e next r h rs w = rw (← p rs w, e) (h rs w)
-
-pub index-goes : (s : List ℕ) (at v property : ℕ) (i : Optional) (to : ℕ) → Goes s at (optionalPart s 2 0 anyNumber) i to → Goes s at (indexPart s v property) (target v property (i .present) (i .value)) to
-index-goes s at v property i to g next = g (λ i. next (target v property (i .present) (i .value)))
-
-pub index-stops : (s : List ℕ) (at v property x : ℕ) → Stops s at (optionalPart s 2 0 anyNumber) x → Stops s at (indexPart s v property) x
-index-stops s at v property x g next = g (λ i. next (target v property (i .present) (i .value)))
-
-module _ (s : List ℕ) (at : ℕ) (t : Target) (value : Span) where
-  abbrev ranked : Optional → Service
-  ranked i = WriteProperty (record { target = t; value = value; ranked = i .present; priority = i .value })
-
-  pub priority-goes : (i : Optional) (to : ℕ) → Goes s at (optionalPart s 4 1 16) i to → (r : Answer) → Answers s to (last (ranked i)) r → Answers s at (priorityPart s t value) r
-  priority-goes i to g r h = g (λ i. last (ranked i)) r h
-
-  pub priority-stops : (x : ℕ) → Stops s at (optionalPart s 4 1 16) x → Answers s at (priorityPart s t value) (Refused x)
-  priority-stops x g = g (λ i. last (ranked i))
 
 -- what an answer says once its case is known
 module _ (s : List ℕ) (at : ℕ) (part : Then → List Rec → Answer) (q : Part) (says : PartSays s at part q) where

@@ -1,16 +1,14 @@
-use Rattle.services.specs.Reading.{layoutFor}
-use borrow.Author.Tests.{eq-eqb, ne-eqb}
+use Rattle.services.proofs.Ways.{layout-error, layout-fault, none-error}
 use borrow.Author.Needs.{needs}
 use Rattle.services.proofs.error.Statement.{statement}
 use Rattle.services.proofs.error.Tie as tie
 
 pub error-spec : {M : Type 1} → statement M
-unfolding layoutFor
 error-spec =
     tie.close
     (tie.spec
     (λ c κs. search needs)
-    (λ c rs w. simp (eq-eqb _ _ (c .before .if1 .taken)) (c .error-of .ensures rs w))
+    (λ c rs w. search (needs, layout-error))
     (λ c κs. search needs)
-    (λ c rs w. simp (ne-eqb _ _ (c .before .before .if1 .left), eq-eqb _ _ (c .before .if2 .taken)) (c .error-of2 .ensures rs w))
-    (λ c rs w. simp (ne-eqb _ _ (c .before .if1 .left), ne-eqb _ _ (c .if2 .left))))
+    (λ c rs w. search (needs, layout-fault))
+    (λ c rs w. search (needs, none-error)))

@@ -1,5 +1,4 @@
-use mathlib.Core.Path.{sym, _∙_}
-use Rattle.services.proofs.Places
+use Rattle.services.proofs.Ways.{read-items, read-not}
 use borrow.Author.Needs.{needs}
 use Rattle.services.proofs.read.Statement.{statement}
 use Rattle.services.proofs.read.Tie as tie
@@ -12,5 +11,5 @@ read-spec =
     (λ c. search needs)
     (λ c κs. search needs)
     (λ c. search needs)
-    (λ c. Places.read-good _ _ _ _ (sym (c .before .before .before .count .ensures) ∙ c .before .enum-told .given .1) _ (c .layout .ensures))
-    (λ c. Places.read-bad _ _ _ _ (sym (c .before .before .before .count .ensures) ∙ c .before .c .given .1)))
+    (λ c. search (needs, read-items))
+    (λ c. search (needs, read-not)))

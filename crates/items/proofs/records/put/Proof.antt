@@ -1,5 +1,5 @@
 use Rattle.items.proofs.RecordOctets.{put-none, put-stores}
-use mathlib.Core.Path.{_∙_}
+use Rattle.items.proofs.Ways.{put-room, put-kept}
 use lib.ListN.{length-set}
 use native.Mathlib.Omega.{arith}
 use borrow.Author.Needs.{needs}
@@ -24,6 +24,6 @@ put-spec =
     (λ c κs. simp length-set (omega arith))
     (λ c. search needs)
     (λ c. search needs)
-    (λ c κs. omega (arith, simp length-set at (c .before .before .before .put-four .kept .0)))
-    (λ c. c .before .before .put-four2 .kept .0 ∙ c .before .before .before .before .before .before .put-four .kept .0 ∙ simp length-set)
-    (λ c. put-stores _ _ _ _ _ _ _ _ _ _ (c .before .before .before .before .before .before .before .before .if1 .left) (c .before .before .before .before .before .before .put-four .ensures) (c .before .before .put-four2 .ensures)))
+    (λ c κs. search (needs, put-room))
+    (λ c. search (needs, put-kept))
+    (λ c. search (needs, put-stores)))

@@ -1,5 +1,4 @@
-use native.Mathlib.Omega.{arith}
-use Rattle.services.proofs.Places
+use Rattle.services.proofs.Ways.{in-turn, small-part}
 use borrow.Author.Needs.{needs}
 use Rattle.services.proofs.others.capable.Statement.{statement}
 use Rattle.services.proofs.others.capable.Tie as tie
@@ -12,11 +11,11 @@ capable-spec =
     (λ c. search needs)
     (λ c κs. search needs)
     (λ c. search needs)
-    (λ c. omega (arith, Places.topped _ _ (c .before .before .before .before .before .before .before .number .ensures .1) (c .before .before .before .before .before .g .given .1)))
-    (λ c. omega (arith, Places.topped _ _ (c .before .before .before .number2 .ensures .1) (c .before .p .given .1)))
+    (λ c. search (needs, small-part))
+    (λ c. search (needs, small-part))
     (λ c κs. search needs)
     (λ c. search needs)
     (λ c. search needs)
-    (λ c. Places.part-goes _ _ _ _ (c .before .before .before .before .before .before .before .before .number .ensures .0) (c .before .before .before .before .before .before .g .given .1) _ _ (Places.part-goes _ _ _ _ (c .before .before .before .before .number2 .ensures .0) (c .before .before .p .given .1) _ _ (c .last .ensures)))
-    (λ c. Places.part-goes _ _ _ _ (c .before .before .before .before .before .before .before .number .ensures .0) (c .before .before .before .before .before .g .given .1) _ _ (Places.part-stops _ _ _ _ (c .before .before .before .number2 .ensures .0) (c .before .p2 .given .1) _))
-    (λ c. Places.part-stops _ _ _ _ (c .before .before .before .number .ensures .0) (c .before .g2 .given .1) _))
+    (λ c rs w. search (needs, in-turn))
+    (λ c rs w. search (needs, in-turn))
+    (λ c rs w. search (needs, in-turn)))

@@ -1,5 +1,5 @@
 use Rattle.services.specs.Reading.{iAm}
-use Rattle.services.proofs.Places
+use Rattle.services.proofs.Ways.{in-turn}
 use borrow.Author.Needs.{needs}
 use Rattle.services.proofs.others.i_am.Statement.{statement}
 use Rattle.services.proofs.others.i_am.Tie as tie
@@ -16,6 +16,6 @@ i-am-spec =
     (λ c κs. search needs)
     (λ c. search needs)
     (λ c. search needs)
-    (λ c. Places.part-goes _ _ _ _ (c .before .before .before .before .before .before .before .before .device .ensures) (c .before .before .before .before .before .before .d .given .1) _ _ (Places.part-goes _ _ _ _ (c .before .before .before .before .number .ensures .0) (c .before .before .l .given .1) _ _ (c .capable .ensures)))
-    (λ c. Places.part-goes _ _ _ _ (c .before .before .before .before .before .before .before .device .ensures) (c .before .before .before .before .before .d .given .1) _ _ (Places.part-stops _ _ _ _ (c .before .before .before .number .ensures .0) (c .before .l2 .given .1) _))
-    (λ c. Places.part-stops _ _ _ _ (c .before .before .before .device .ensures) (c .before .d2 .given .1) _))
+    (λ c rs w. search (needs, in-turn))
+    (λ c rs w. search (needs, in-turn))
+    (λ c rs w. search (needs, in-turn)))

@@ -1,5 +1,4 @@
-use mathlib.Core.Path.{sym, _∙_}
-use Rattle.services.proofs.Places
+use Rattle.services.proofs.Ways.{present-here, present-not}
 use borrow.Author.Needs.{needs}
 use Rattle.services.proofs.parts.present.Statement.{statement}
 use Rattle.services.proofs.parts.present.Tie as tie
@@ -11,5 +10,5 @@ present-spec =
     (λ c κs. search needs)
     (λ c. search needs)
     (λ c. search needs)
-    (λ c. Places.here _ _ _ _ _ (sym (c .before .before .wanted .ensures) ∙ c .enum-told .given .1))
-    (λ c. Places.absent _ _ _ (sym (c .before .before .wanted .ensures) ∙ c .enum-told2 .given .1)))
+    (λ c rs w. search (needs, present-here))
+    (λ c rs w. search (needs, present-not)))

@@ -1,4 +1,4 @@
-use Rattle.services.proofs.Places
+use Rattle.services.proofs.Ways.{in-turn}
 use borrow.Author.Needs.{needs}
 use Rattle.services.proofs.property.index.Statement.{statement}
 use Rattle.services.proofs.property.index.Tie as tie
@@ -11,5 +11,5 @@ index-spec =
     (λ c. search needs)
     (λ c. search needs)
     (λ c. search needs)
-    (λ c. Places.index-goes _ _ _ _ _ _ (Places.option-goes _ _ _ _ (c .before .before .before .optional-number .ensures .0) (c .before .i .given .1)))
-    (λ c. Places.index-stops _ _ _ _ _ (Places.option-stops _ _ _ _ (c .before .before .before .optional-number .ensures .0) (c .before .i2 .given .1))))
+    (λ c next r h rs w. search (needs, in-turn))
+    (λ c next rs w. search (needs, in-turn)))

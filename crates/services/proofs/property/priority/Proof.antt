@@ -1,5 +1,4 @@
-use native.Mathlib.Omega.{arith}
-use Rattle.services.proofs.Places
+use Rattle.services.proofs.Ways.{in-turn, small-number}
 use borrow.Author.Needs.{needs}
 use Rattle.services.proofs.property.priority.Statement.{statement}
 use Rattle.services.proofs.property.priority.Tie as tie
@@ -10,8 +9,8 @@ priority-spec =
     (tie.spec
     (λ c κs. search needs)
     (λ c. search needs)
-    (λ c. omega (arith, Places.option-topped _ _ (c .before .before .before .before .optional-number .ensures .1) (c .before .before .p .given .1)))
+    (λ c. search (needs, small-number))
     (λ c κs. search needs)
     (λ c. search needs)
-    (λ c. Places.priority-goes _ _ _ _ _ _ (Places.option-goes _ _ _ _ (c .before .before .before .before .before .optional-number .ensures .0) (c .before .before .before .p .given .1)) _ (c .last .ensures))
-    (λ c. Places.priority-stops _ _ _ _ _ (Places.option-stops _ _ _ _ (c .before .before .before .optional-number .ensures .0) (c .before .p2 .given .1))))
+    (λ c rs w. search (needs, in-turn))
+    (λ c rs w. search (needs, in-turn)))
