@@ -1,3 +1,4 @@
 pub mod Room
 pub mod Worth
+pub mod Order
 pub mod Promises

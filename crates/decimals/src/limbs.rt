@@ -1,7 +1,7 @@
 // Big numbers: forty limbs of 32 bits, low limb first, of which the first n are in use.
 ghost use mathlib.Core.Path.{_≡_};
 ghost use Prim.Native.Nat.{_+_, _*_, _/_, _%_, _≤_, _<_};
-ghost use Rattle.decimals.specs.Promises.{Scaled, Added, Taken};
+ghost use Rattle.decimals.specs.Promises.{Scaled, Added, Taken, Compared};
 
 // A limb times a factor, and what was carried.
 fn product(x: u32, by: u32, carry: u32) -> u64
@@ -98,7 +98,7 @@ pub fn subtract(a: &mut [u32; 40], b: &[u32; 40], n: usize) -> u32
 // 0: a is smaller than b; 1: they are equal; 2: a is larger.
 pub fn compare(a: &[u32; 40], b: &[u32; 40], n: usize) -> u8
     requires { ⌜ n ≤ 40 ⌝ }
-    ensures { λ r. ⌜ r ≤ 2 ⌝ }
+    ensures { λ r. ⌜ Compared (now (a .entry)) (now (b .entry)) n r ⌝ }
 {
     let mut i = n;
     while 0 < i {

@@ -2,10 +2,6 @@ use borrow.Author.Needs.{needs}
 use Prim.Native.Nat.{_≤_, _-_}
 use Rattle.decimals.proofs.digits.digit.Statement.{statement}
 use Rattle.decimals.proofs.digits.digit.Tie as tie
-use Rattle.decimals.proofs.digits.digit.Reads as reads
-use Rattle.decimals.proofs.digits.digit.Lts as lts
-use Rattle.decimals.proofs.limbs.compare.Reads as compare-reads
-use Rattle.decimals.proofs.limbs.subtract.Reads as subtract-reads
 
 abbrev Inv-loop : tie.InvT-loop
 Inv-loop r₀ s n d₀ r d = d ≤ 9

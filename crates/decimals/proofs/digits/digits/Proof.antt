@@ -2,16 +2,6 @@ use borrow.Author.Needs.{needs}
 use Prim.Native.Nat.{_≤_, _-_}
 use Rattle.decimals.proofs.digits.digits.Statement.{statement}
 use Rattle.decimals.proofs.digits.digits.Tie as tie
-use Rattle.decimals.proofs.digits.digits.Reads as reads
-use Rattle.decimals.proofs.digits.digits.Lts as lts
-use Rattle.decimals.proofs.digits.digit.Reads as digit-reads
-use Rattle.decimals.proofs.digits.exceeds.Reads as exceeds-reads
-use Rattle.decimals.proofs.digits.half.Reads as half-reads
-use Rattle.decimals.proofs.digits.keep.Reads as keep-reads
-use Rattle.decimals.proofs.digits.last.Reads as last-reads
-use Rattle.decimals.proofs.digits.reaches.Reads as reaches-reads
-use Rattle.decimals.proofs.limbs.compare.Reads as compare-reads
-use Rattle.decimals.proofs.limbs.scale.Reads as scale-reads
 
 abbrev Inv-loop : tie.InvT-loop
 Inv-loop r₀ s plus₀ minus₀ n even out₀ k₀ r plus minus out k = k ≤ 20

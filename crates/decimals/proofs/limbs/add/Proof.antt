@@ -4,17 +4,18 @@ use Prim.Native.Nat.{_+_, _*_, _^_, _≤_, _-_}
 use lib.ListN.{length, length-set}
 use mathlib.Core.Path.{_≡_, refl}
 use Rattle.decimals.specs.Worth.{worth, Above, worth-none, above-set, added}
+use Rattle.decimals.specs.Order.{Limbs, limbs-set}
 use Rattle.decimals.proofs.limbs.add.Statement.{statement}
 use Rattle.decimals.proofs.limbs.add.Tie as tie
 
 abbrev Inv-loop : tie.InvT-loop
-Inv-loop a₀ b n carry₀ i₀ a carry i = (i ≤ n) × (length a ≡ length a₀) × Above i a a₀ × (n ≤ length a₀ → worth a i + carry * 4294967296 ^ i ≡ worth a₀ i + worth b i)
+Inv-loop a₀ b n carry₀ i₀ a carry i = (i ≤ n) × (length a ≡ length a₀) × Above i a a₀ × (n ≤ length a₀ → worth a i + carry * 4294967296 ^ i ≡ worth a₀ i + worth b i) × (n ≤ length a₀ → Limbs a₀ → Limbs a)
 
 abbrev μ-loop : tie.MeasureT-loop
 μ-loop a₀ b n carry₀ i₀ a carry i = n - i
 
 loop-holds : tie.Need-loop-holds Inv-loop μ-loop
-loop-holds c = (omega arith, refl, (λ j w. refl), λ h. simp worth-none (omega arith))
+loop-holds c = (omega arith, refl, (λ j w. refl), (λ h. simp worth-none (omega arith)), λ h k. k)
 
 mul-sum : tie.Need-mul-sum Inv-loop μ-loop
 mul-sum c = search needs
@@ -53,13 +54,13 @@ loop-again : tie.Need-loop-again Inv-loop μ-loop
 loop-again c =
     let l = c .before .before .before .before .before .before .loop in
     let s = c .before .before .before .before .before .before .before .args in
-    (omega arith, simp length-set (l .inv .1), above-set (l .a) (s .a .now) (l .i) (c .before .low .result) (l .inv .2), λ h. added (l .a) (s .a .now) (s .b .now) (l .i) (l .carry) (c .before .low .result) (c .high .result) (omega arith) (l .inv .2) (l .inv .3 h) (omega arith))
+    (omega arith, simp length-set (l .inv .1), above-set (l .a) (s .a .now) (l .i) (c .before .low .result) (l .inv .2), (λ h. added (l .a) (s .a .now) (s .b .now) (l .i) (l .carry) (c .before .low .result) (c .high .result) (omega arith) (l .inv .2) (l .inv .3 h) (omega arith)), λ h k. limbs-set (l .a) (l .i) (c .before .low .result) (omega arith) (omega arith) (l .inv .4 h k))
 
 returns : tie.Need-returns Inv-loop μ-loop
 returns c =
     let l = c .before .loop in
     let e : l .i ≡ c .before .before .args .n = omega arith in
-    record { long = l .inv .1; exact = λ h. rw e at (l .inv .3 h) }
+    record { long = l .inv .1; limbs = l .inv .4; exact = λ h. rw e at (l .inv .3 h) }
 
 pub add-spec : {M : Type 1} → statement M
 add-spec =

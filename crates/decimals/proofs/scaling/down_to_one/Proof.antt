@@ -2,10 +2,6 @@ use borrow.Author.Needs.{needs}
 use Prim.Native.Nat.{_≤_, _-_}
 use Rattle.decimals.proofs.scaling.down_to_one.Statement.{statement}
 use Rattle.decimals.proofs.scaling.down_to_one.Tie as tie
-use Rattle.decimals.proofs.scaling.down_to_one.Reads as reads
-use Rattle.decimals.proofs.scaling.down_to_one.Lts as lts
-use Rattle.decimals.proofs.digits.reaches.Reads as reaches-reads
-use Rattle.decimals.proofs.limbs.scale.Reads as scale-reads
 
 abbrev Inv-loop : tie.InvT-loop
 Inv-loop r s₀ plus n even point₀ s point = (400 ≤ point) × (point ≤ 800)

@@ -2,10 +2,6 @@ use borrow.Author.Needs.{needs}
 use Prim.Native.Nat.{_≤_}
 use Rattle.decimals.proofs.scaling.up_to_tenth.Statement.{statement}
 use Rattle.decimals.proofs.scaling.up_to_tenth.Tie as tie
-use Rattle.decimals.proofs.scaling.up_to_tenth.Reads as reads
-use Rattle.decimals.proofs.scaling.up_to_tenth.Lts as lts
-use Rattle.decimals.proofs.digits.short.Reads as short-reads
-use Rattle.decimals.proofs.limbs.scale.Reads as scale-reads
 
 abbrev Inv-loop : tie.InvT-loop
 Inv-loop r₀ s plus₀ minus₀ n even from point₀ r plus minus point = point ≤ 800

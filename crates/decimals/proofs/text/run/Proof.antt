@@ -4,11 +4,6 @@ use lib.ListN.{length}
 use mathlib.Core.Path.{_≡_}
 use Rattle.decimals.proofs.text.run.Statement.{statement}
 use Rattle.decimals.proofs.text.run.Tie as tie
-use Rattle.decimals.proofs.text.run.Reads as reads
-use Rattle.decimals.proofs.text.run.Lts as lts
-use Rattle.decimals.proofs.text.figure.Reads as figure-reads
-use Rattle.decimals.proofs.text.push.Reads as push-reads
-use Rattle.decimals.proofs.text.shown.Reads as shown-reads
 
 abbrev Inv-loop : tie.InvT-loop
 Inv-loop digits from to out₀ at w₀ i₀ out w i = (w ≤ 40) × (length out ≡ length out₀)

@@ -4,9 +4,6 @@ use lib.ListN.{length}
 use mathlib.Core.Path.{_≡_}
 use Rattle.decimals.proofs.text.zeros.Statement.{statement}
 use Rattle.decimals.proofs.text.zeros.Tie as tie
-use Rattle.decimals.proofs.text.zeros.Reads as reads
-use Rattle.decimals.proofs.text.zeros.Lts as lts
-use Rattle.decimals.proofs.text.push.Reads as push-reads
 
 abbrev Inv-loop : tie.InvT-loop
 Inv-loop count out₀ at w₀ i₀ out w i = (w ≤ 40) × (length out ≡ length out₀)
