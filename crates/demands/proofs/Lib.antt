@@ -16,3 +16,5 @@ pub mod TagRows
 pub mod StateOctets
 pub mod Completed
 pub mod CompletedRun
+pub mod Exported
+pub mod ServicesBack

@@ -84,7 +84,7 @@ use Rattle.state.specs.Layout.{stateOctets, Fits}
 use Rattle.state.specs.Calls.{Loads}
 use Rattle.hitchbarley.specs.Trunk.{stateBy}
 use Rattle.hitchbarley.specs.Offering.{Heard, Linked}
-use Rattle.demands.specs.Words.{One, Between, SixtyThenFiftyNine, BrokenReceiver, Broken, Four, WritesBy, SegmentChanges, unfedBy, quietBy, FeedChanges, shownService}
+use Rattle.demands.specs.Words.{One, Between, SixtyThenFiftyNine, BrokenReceiver, Broken, Four, WritesBy, SegmentChanges, unfedBy, quietBy, FeedChanges, shownService, KeptService}
 
 -- ---- DEMAND 1. "Every call, on any octets, records, slot numbers or areas, stays in bounds and ends. Bad input gets the refusal number that document 01
 -- fixes, and the call changes only what that page then lets it."
@@ -345,13 +345,26 @@ ServicesWriteBack = (kind choice : ℕ) (o area later : List ℕ) (v : Service) 
     → (r ≡ Wrote (length o)) × (later ≡ o ++ drop (length o) area))
 
 -- what keeps the rules, absent parts taken as 0, is written wherever the area is long enough, and reads back as the same message
-abbrev pub ServicesReadBack : Type 0
-ServicesReadBack = (v : Service) (ts : List Tags.Thing) (area later : List ℕ) (r : Written)
+abbrev pub ServicesAreWritten : Type 0
+ServicesAreWritten = (v : Service) (ts : List Tags.Thing) (area later : List ℕ) (r : Written)
     → (let value = Items.encodeAll ts in
     let m = Services.messageOf (shownService v) ts in
     Services.ValidFor (ServiceWriter.kindOf v) (ServiceWriter.choiceOf v) m → length (ServiceWriter.octetsOf v value) ≤ length area
     → Laid (ServiceWriter.faultOf v value) (ServiceWriter.octetsOf v value) area r later
     → (n : ℕ) × (r ≡ Wrote n) × Services.Shows (ServiceWriter.kindOf v) (ServiceWriter.choiceOf v) (take n later) m)
+
+-- what was written reads back. Whatever the value's octets are, the output is accepted, since the writer gives "the number that reading their output would give",
+-- and as a service that is written as the same octets. Where the value is whole items by itself, it is the message that was written, absent parts shown as 0.
+-- Else the value may be another: with `0A` as value and 63 as priority, `3E 0A 3F 49 3F`, that item's contents are the group's closing and the priority's tag,
+-- the priority's octet closes the group, and the value that is read is `0A 3F 49`, without a priority.
+abbrev pub ServicesReadBack : Type 0
+ServicesReadBack = (v : Service) (value area later : List ℕ) (n : ℕ) → Octets later
+    → Laid (ServiceWriter.faultOf v value) (ServiceWriter.octetsOf v value) area (Wrote n) later
+    → (let o = take n later in
+    let kind = ServiceWriter.kindOf v in
+    let choice = ServiceWriter.choiceOf v in
+    ((w : Service) × (readService kind choice o ≡ ServiceAnswer.Answer.Good w) × (ServiceWriter.octetsOf w (ServiceWriter.valueIn o w) ≡ o))
+    × (KeptService v → (ts : List Tags.Thing) → Items.Grammar ts → value ≡ Items.encodeAll ts → Services.Shows kind choice o (Services.messageOf (shownService v) ts)))
 
 -- ---- DEMAND 3. "From one state that refusal 59 passes and one message area, fix one run of trunk octets with silences and forget orders at fixed places. Cut the
 -- octets anywhere, offer the rest again after each report, lend areas of the right sizes that nobody else writes. Then reports, final state and message area are
@@ -393,9 +406,10 @@ abbrev pub StatesExact : Type 0
 StatesExact = Exactly Loads Fits stateOctets
 
 -- demand 3's first sentence of the exported calls: from a state area that holds a state which 59 passes, however the run is offered by them, reports and message
--- area are the reading's, and the state area holds the state that the reading ends in
+-- area are the reading's, and the state area is then the octets of the state that the reading ends in, and holds it
 abbrev pub ReadOverOctets : Type 0
-ReadOverOctets = (state : List ℕ) (c : Collector) (area : List ℕ) → Loads state c → Passes c → length area ≡ 65536 → (run : Run) (h : Heard)
+ReadOverOctets = (state : List ℕ) (c : Collector) (area : List ℕ) → Octets state → Loads state c → Passes c → length area ≡ 65536 → (run : Run) (h : Heard)
     → Linked (length (heldOf (c .receiver))) state area run h
     → (let e = reading (rules keys bacnet) (c .receiver) (slotsOf c) area run in
-    (h .reports ≡ e .reports) × (h .area ≡ e .area) × Loads (h .state) (stateBy (e .state) (e .slots)))
+    let last = stateBy (e .state) (e .slots) in
+    (h .reports ≡ e .reports) × (h .area ≡ e .area) × (h .state ≡ stateOctets last) × Loads (h .state) last)

@@ -21,6 +21,7 @@ use Rattle.messages.specs.Rows.{Answer, before, awaiting, freeAt, rebuild}
 use Rattle.messages.specs.Rows.Answer.{refused, taken, completed}
 use Rattle.rebuild.specs.View.{keys}
 use Rattle.rebuild.specs.declared.Key.{Key}
+use Rattle.services.specs.Parts.{anyNumber}
 use Rattle.services.specs.declared.Service.{Service}
 use Rattle.services.specs.declared.Service.the-variants.{ReadProperty, ReadPropertyAck, WriteProperty, WhoIs, IAm, Error}
 use Rattle.services.specs.declared.Target.{Target}
@@ -132,3 +133,15 @@ shownService (WriteProperty w) = WriteProperty (record { target = shownTarget (w
 shownService (WhoIs w) = WhoIs (record { limited = w .limited; low = pick (w .limited) (w .low) 0; high = pick (w .limited) (w .high) 0 })
 shownService (IAm i) = IAm i
 shownService (Error f) = Error f
+
+-- the numbers that the types of a service's fields hold; object and instance, which the layout may not hold, are judged by the writer
+abbrev pub KeptTarget : Target → Type 0
+KeptTarget t = (t .property ≤ anyNumber) × (t .index ≤ anyNumber)
+
+abbrev pub KeptService : Service → Type 0
+KeptService (ReadProperty t) = KeptTarget t
+KeptService (ReadPropertyAck a) = KeptTarget (a .target)
+KeptService (WriteProperty w) = KeptTarget (w .target) × (w .priority ≤ 255)
+KeptService (WhoIs w) = (w .low ≤ anyNumber) × (w .high ≤ anyNumber)
+KeptService (IAm i) = (i .longest ≤ anyNumber) × (i .segmentation ≤ 255) × (i .vendor ≤ 65535)
+KeptService (Error f) = (f .class ≤ anyNumber) × (f .code ≤ anyNumber)
