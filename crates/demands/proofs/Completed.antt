@@ -30,7 +30,7 @@ use Rattle.items.specs.Reading.{itemsOf, counted}
 use Rattle.items.specs.Reading.Out.{good, bad}
 use Rattle.messages.specs.Slots.{Segment, Slot, Box, boxed, room, part, slotAt}
 use Rattle.messages.specs.Rows as Rows
-use Rattle.messages.specs.Rows.{Answer, rebuild}
+use Rattle.messages.specs.Rows.{Answer, startsAt, rebuild}
 use Rattle.messages.specs.Rows.Answer.{refused, taken, completed}
 use Rattle.messages.specs.History.{Deed, Log, Past, past, accepted, begun, since, joined, numbers, below, Rebuilt, standing, after, runs}
 use Rattle.messages.specs.History.Deed.{forgetting}
@@ -177,6 +177,7 @@ abbrev Same : Log Key → Log Key → Type 0
 Same a b = (k : Key) → (since keys k a ≡ since keys k b) × (begun keys k a ≡ begun keys k b)
 
 same-said : (g : Segment Key) (w v : Answer) (a b : Log Key) → accepted w ≡ accepted v → Same a b → Same (said g w ∷ a) (said g v ∷ b)
+unfolding startsAt
 same-said g w v a b e h k = (rw (e, h k .0), rw (e, h k .1))
 
 rebuilt-same : {k : Key} {a b : Log Key} {area : List ℕ} {i n : ℕ} → Same a b → Rebuilt keys k a area i n → Rebuilt keys k b area i n

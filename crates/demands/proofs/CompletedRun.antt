@@ -23,7 +23,7 @@ use Rattle.items.specs.Reading as Items
 use Rattle.items.specs.Reading.{itemsOf}
 use Rattle.items.proofs.Examples.{worked}
 use Rattle.messages.specs.Slots.{part}
-use Rattle.messages.specs.Rows.{rebuild}
+use Rattle.messages.specs.Rows.{rebuild, startsAt, nextNumber}
 use Rattle.messages.specs.History.{begun, since, joined}
 use Rattle.rebuild.specs.View.{keys, sameKey}
 use Rattle.recordings.specs.Frames.{rules}
@@ -61,7 +61,7 @@ reportsBy y =
 
 computed : (area : List ℕ)
     → reading (rules keys bacnet) (freshCollector .receiver) (slotsOf freshCollector) area run .reports ≡ reportsBy (itemsOf (part 16384 7 (laid area)))
-unfolding reading readFrom readingOf headerMix dataBits dataBit splice lengthOf contentOf npduContent given Npdu.readNpdu Npdu.afterVersion Npdu.afterDest Npdu.afterSource Npdu.afterTail Npdu.partIf Npdu.noPart Npdu.tailAt Npdu.joined Npdu.messageAt Npdu.ended Npdu.refusedBy Apdu.readApdu Apdu.readRequest Apdu.readComplexAck Apdu.readTail tailEnd rebuild sameKey reportOctets partsOf digits
+unfolding reading readFrom readingOf headerMix dataBits dataBit splice lengthOf contentOf npduContent given Npdu.readNpdu Npdu.afterVersion Npdu.afterDest Npdu.afterSource Npdu.afterTail Npdu.partIf Npdu.noPart Npdu.tailAt Npdu.joined Npdu.messageAt Npdu.ended Npdu.refusedBy Apdu.readApdu Apdu.readRequest Apdu.readComplexAck Apdu.readTail tailEnd rebuild startsAt nextNumber sameKey reportOctets partsOf digits
 computed area = refl
 
 -- what is heard of the message
@@ -69,11 +69,11 @@ abbrev heard : List (ℕ × List ℕ)
 heard = (18, otherReport) ∷ (39, firstReport) ∷ (59, secondReport) ∷ []
 
 says : (let log = heardFrom freshCollector run heard in (begun keys (keyIn secondReport) log ≡ true) × (joined (since keys (keyIn secondReport) log) ≡ all))
-unfolding readFrom readingOf headerMix dataBits dataBit splice lengthOf contentOf npduContent given Npdu.readNpdu Npdu.afterVersion Npdu.afterDest Npdu.afterSource Npdu.afterTail Npdu.partIf Npdu.noPart Npdu.tailAt Npdu.joined Npdu.messageAt Npdu.ended Npdu.refusedBy Apdu.readApdu Apdu.readRequest Apdu.readComplexAck Apdu.readTail tailEnd sameKey partsOf valueAt
+unfolding readFrom readingOf headerMix dataBits dataBit splice lengthOf contentOf npduContent given Npdu.readNpdu Npdu.afterVersion Npdu.afterDest Npdu.afterSource Npdu.afterTail Npdu.partIf Npdu.noPart Npdu.tailAt Npdu.joined Npdu.messageAt Npdu.ended Npdu.refusedBy Apdu.readApdu Apdu.readRequest Apdu.readComplexAck Apdu.readTail tailEnd startsAt nextNumber sameKey partsOf valueAt
 says = (refl, refl)
 
 pub completed-worked : CompletedWorked
-unfolding valueAt
+unfolding valueAt reportOctets digits
 completed-worked area z e o =
     let Reports : Type 0 = List (ℕ × List ℕ) in
     let q : e .reports ≡ heard =
