@@ -10,7 +10,7 @@ use lib.ListN.{length, drop}
 use borrow.Author.Tests.{eq-eqb, eqb-true, eqb-false, ltb-true, ltb-false}
 use Rattle.octets.specs.Choice.{pick, both, pick-case, by-test, both-true, true-both, impossible, not-so}
 use Rattle.octets.specs.Reading.{Octets, oct}
-use Rattle.octets.specs.Laid.{answerOf}
+use Rattle.octets.specs.Laid.{Laid, answerOf}
 use Rattle.octets.specs.declared.Written.{Written}
 use Rattle.octets.specs.declared.Written.the-variants.{Wrote, Refused}
 use Rattle.npdu.specs.Reading.{readNpdu}
@@ -512,6 +512,22 @@ module _ (F : ℕ) (o area : List ℕ) (r wrote : ℕ) (later : List ℕ) (y : W
       (λ t. let q = short (eqb-true F 0 z) (ltb-true _ _ t) in inr (inr (q .0), q .1))
       (λ t. inl (fine (eqb-true F 0 z) (ltb-false _ _ t) .0)))
       (λ z. let q = faulty (eqb-false F 0 z) in inr (inl (q .0), q .1))
+
+-- what was written: no fault, and the promise of the call below
+pub wrote-laid : (F : ℕ) (o area : List ℕ) (wrote : ℕ) (later : List ℕ) → Writes F o area 0 wrote later → (F ≡ 0) × Laid F o area (Wrote wrote) later
+wrote-laid F o area wrote later y =
+    by-test (eqb F 0)
+    (λ z. (eqb-true F 0 z, record { answer = counted-so (eqb-true F 0 z); after = y .after }))
+    (λ z. let n = eqb-false F 0 z in absurd (n (sym (faulty F o area 0 wrote later y n .0))))
+  where
+    counted-so : F ≡ 0 → Wrote wrote ≡ answerOf F o area
+    counted-so e =
+        by-test (ltb (length area) (length o))
+        (λ t. differ 61 0 refl (short F o area 0 wrote later y e (ltb-true _ _ t) .0) refl)
+        (λ t.
+        let h = ltb-false _ _ t in
+        let w = writers-refuse F o area later (answerOf F o area) (record { answer = refl; after = y .after }) .fine e h in
+        ap Wrote (fine F o area 0 wrote later y e h .1) ∙ sym (w .0))
 
 writes-from : (Sized : Type 0) (a : Bool) (f : ℕ) (o area : List ℕ) (r wrote : ℕ) (later : List ℕ) → (a ≡ true → Sized) → (Sized → a ≡ true) → (f ≡ 60 → ⊥)
     → Writes (pick a f 60) o area r wrote later → WritesFrom Sized f o area r wrote later

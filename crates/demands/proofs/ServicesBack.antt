@@ -7,14 +7,16 @@ use mathlib.Core.Bool.{Bool, true, false}
 use mathlib.Core.List.{List, [], _∷_, _++_, append-nil}
 use lib.ListN.{length, take, drop, length-append}
 use lib.Seq.{take-at}
+use lib.Dec.{eqb, leb}
 use borrow.Author.Tests.{ltb-false}
-use Rattle.octets.specs.Choice.{pick-case, pick-not, by-test, impossible}
-use Rattle.octets.specs.Reading.{Octets}
+use Rattle.octets.specs.Choice.{pick, pick-case, pick-not, pick-so, by-test, impossible}
+use Rattle.octets.specs.Reading.{Octets, oct}
 use Rattle.octets.specs.Every.{octets-part}
 use Rattle.octets.specs.Has.{Has, has-left, has-right, has-bound, all-has}
-use Rattle.octets.specs.Laid.{laid-wrote}
-use Rattle.octets.specs.Numbers.{valueAt, digits, widthOf, value-digits, length-digits, octets-digits, width-holds, width-range}
+use Rattle.octets.specs.Laid.{laid-wrote, laid-as}
+use Rattle.octets.specs.Numbers.{valueAt, digits, widthOf, value-digits, length-digits, octets-digits, width-holds, width-range, longForm, value-below}
 use Rattle.tags.specs.Types.{longest, least, most}
+use Rattle.tags.specs.Head.{headAt, numberAt, lengthAt, twoAt, fourAt, firstRule, firstContent, contentsAt, wholeAt, signBad, signedAt, contextAt, applicationAt}
 use Rattle.tags.specs.Layout as tag
 use Rattle.tags.specs.Layout.{Thing, Valid, tagOf, shortUnsigned, goodContents}
 use Rattle.tags.specs.Layout.Thing.{application, boolean, context, opening, closing}
@@ -24,9 +26,11 @@ use Rattle.tags.proofs.Exact.{encode-some, head-complete}
 use Rattle.tags.proofs.Integers.{shortest-unsigned}
 use Rattle.items.specs.Records.{Rec, rec, thingsOf}
 use Rattle.items.specs.Grammar.{encodeAll, AllValid, Grammar, recordOf, recordsFrom}
+use Rattle.items.specs.Reading.{more, ending, closes, step, walk, itemsOf}
 use Rattle.items.proofs.Exact.{things-named}
-use Rattle.services.specs.Parts.{anyNumber}
-use Rattle.services.specs.Reading.{lastInstance, readService}
+use Rattle.services.specs.Parts.{anyNumber, present, wanted, numberRule, objectRule, optionalNumber, afterGroup, group, last}
+use Rattle.services.specs.Reading.{lastInstance, targetParts, layoutFor, readService}
+use Rattle.services.specs.Reading as reading
 use Rattle.services.specs.Layout.{Message, shortest, optional, pointed, valued, thingsOfMessage, encode, Pointing, Ranges, WholeValue}
 use Rattle.services.specs.Layout.Message.{readProperty, readPropertyAck, writeProperty, whoIs, iAm, errorOf}
 use Rattle.services.specs.Shows.{For, pointedOf, messageOf, Shows, ValidFor}
@@ -37,12 +41,16 @@ use Rattle.services.specs.declared.Service.the-variants.{ReadProperty, ReadProp
 use Rattle.services.specs.declared.Target.{Target}
 use Rattle.services.proofs.Exact.{accepted}
 use Rattle.services.proofs.Refusals.{AnswerHas, read-has}
-use Rattle.service_writer.specs.Writing.{kindOf, choiceOf, octetsOf, wideTarget, tooWide, refusalOf, readFault, faultOf}
+use Rattle.service_writer.specs.Writing.{kindOf, choiceOf, octetsOf, wideTarget, tooWide, refusalOf, readFault, faultOf, grouped, ranked}
 use Rattle.service_writer.proofs.Items.{not-wide}
 use Rattle.service_writer.proofs.Trips.{octets-are, writes-back}
+use Rattle.records.specs.Service.{serviceSize, serviceOf, serviceAt}
+use Rattle.hitchbarley.specs.Services.{serviceFault}
 use Rattle.demands.specs.Words.{KeptTarget, KeptService, shownTarget, shownService}
-use Rattle.demands.specs.Demands.{ServicesReadBack}
+use Rattle.demands.specs.Demands.{ServicesReadBack, ServicesSwallow}
+use Rattle.demands.specs.Exported.{ExportedServiceBack}
 use Rattle.demands.proofs.Two.{optional-shown, pointed-shown, shows-shown}
+use Rattle.demands.proofs.Exported.{wrote-laid}
 
 -- ---- octets that are written from good items are written from no others
 abbrev recordAs : Tag → Rec
@@ -328,3 +336,31 @@ services-read-back v value area later n os l =
       (u, rw t read, rw t (writes-back (kindOf v) (choiceOf v) o good u read .octets)),
       λ k ts g e. rw t (whole-shows v value ts k g e (f .0) good u read),
     )
+
+-- ---- the exception, by computation
+pub services-swallow : ServicesSwallow
+unfolding faultOf octetsOf grouped ranked tooWide wideTarget refusalOf messageOf thingsOfMessage pointed encodeAll tag.encode tag.highBits tag.numberOctets tag.lowBits tag.lengthOctets digits widthOf readService layoutFor reading.writeProperty targetParts present wanted numberRule objectRule optionalNumber afterGroup group last itemsOf walk step closes ending more headAt numberAt lengthAt twoAt fourAt firstRule firstContent contentsAt wholeAt signBad signedAt contextAt applicationAt least most valueAt longForm
+services-swallow = (refl, refl, refl)
+
+-- ---- over records: the numbers of a record's service are those of its octets
+service-kept : (o : List ℕ) → Octets o → KeptService (serviceAt o)
+unfolding serviceAt serviceOf
+service-kept o os =
+    let number : (p : ℕ) → valueAt o p 4 ≤ anyNumber = λ p. (let h : valueAt o p 4 < 4294967296 = value-below o os p 4 in omega arith) in
+    let octet : (p : ℕ) → oct o p ≤ 255 = λ p. (let h = os p in omega arith) in
+    pick-case KeptService (eqb (oct o 0) 0) (number 8, number 12)
+    (pick-case KeptService (eqb (oct o 0) 1) (number 8, number 12)
+    (pick-case KeptService (eqb (oct o 0) 2) ((number 8, number 12), octet 25)
+    (pick-case KeptService (eqb (oct o 0) 3) (number 4, number 8)
+    (pick-case KeptService (eqb (oct o 0) 4) (number 8, octet 1, omega (arith, octet 2, octet 3))
+    (number 4, number 8)))))
+
+pub exported-service-back : ExportedServiceBack
+unfolding serviceFault
+exported-service-back fields value area wrote later of os y =
+    let v = serviceAt fields in
+    let w = wrote-laid (serviceFault fields value) (octetsOf v value) area wrote later y in
+    let p = pick-so (eqb (length fields) serviceSize) (pick (leb (oct fields 0) 5) (faultOf v value) 43) 60 0 (λ z. omega arith) (w .0) in
+    let q = pick-so (leb (oct fields 0) 5) (faultOf v value) 43 0 (λ z. omega arith) (p .1) in
+    let b = services-read-back v value area later wrote os (laid-as (w .0 ∙ sym (q .1)) refl (w .1)) in
+    (b .0, b .1 (service-kept fields of))

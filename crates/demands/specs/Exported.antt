@@ -6,7 +6,7 @@ use mathlib.Core.Logic.{_↔_, _⊎_}
 use mathlib.Core.Bool.{true, false}
 use mathlib.Core.List.{List, _++_}
 use lib.Dec.{eqb, leb}
-use lib.ListN.{length, drop}
+use lib.ListN.{length, take, drop}
 use Rattle.octets.specs.Choice.{pick}
 use Rattle.octets.specs.Reading.{Octets, oct}
 use Rattle.npdu.specs.Reading.{readNpdu}
@@ -45,7 +45,7 @@ use Rattle.hitchbarley.specs.Answers.{Writes, Fills, FillsTo}
 use Rattle.hitchbarley.specs.Headers.{apduGood, apduNumber, apduOctets, apduParams, npduFault, apduFault}
 use Rattle.hitchbarley.specs.Items.{tallyNumber, tallyCount, Counts, Lists, Steps, stepGood, stepNumber, stepRecord, stepPlace}
 use Rattle.hitchbarley.specs.Services.{serviceGood, serviceNumber, serviceOctets, serviceFault}
-use Rattle.demands.specs.Words.{SixtyThenFiftyNine, Broken}
+use Rattle.demands.specs.Words.{SixtyThenFiftyNine, Broken, AcceptedBack, WholeBack}
 
 -- ---- the calls of one trunk, over a state area
 -- the area's octets are a state's, of which P holds
@@ -192,3 +192,10 @@ ExportedServiceWrite = (fields value area : List ℕ) (r wrote : ℕ) (later : L
     → (let o = ServiceWriter.octetsOf (serviceAt fields) value in
     Writes (serviceFault fields value) o area r wrote later
     → WritesFrom (length fields ≡ serviceSize) (pick (leb (oct fields 0) 5) (ServiceWriter.faultOf (serviceAt fields) value) 43) o area r wrote later)
+
+-- what hb_service_write wrote reads back, for the kind and choice of the record's service: ServicesReadBack over records
+abbrev pub ExportedServiceBack : Type 0
+ExportedServiceBack = (fields value area : List ℕ) (wrote : ℕ) (later : List ℕ) → Octets fields → Octets later
+    → (let v = serviceAt fields in
+    Writes (serviceFault fields value) (ServiceWriter.octetsOf v value) area 0 wrote later
+    → AcceptedBack v (take wrote later) × WholeBack v value (take wrote later))
