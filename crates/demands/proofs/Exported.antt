@@ -101,7 +101,8 @@ own-same : (state state′ : List ℕ) → state′ ≡ state → Own state → 
 own-same state state′ e h = subst Own (sym e) h
 
 module _ (state : List ℕ) (own : Own state) where
-  pub feed-own : {report area piece : List ℕ} {r eaten reported : ℕ} {state′ report′ area′ : List ℕ} → Feeds state report area piece r eaten reported state′ report′ area′ → Own state′
+  pub feed-own : {report area piece : List ℕ} {r eaten reported : ℕ} {state′ report′ area′ : List ℕ}
+      → Feeds state report area piece r eaten reported state′ report′ area′ → Own state′
   unfolding feedLeft
   feed-own {report} {area} {piece} {state′ = state′} y =
       by-test (eqb (feedBar state report area) 0)
@@ -198,7 +199,8 @@ module _ (state piece report area : List ℕ) (r eaten reported : ℕ) (state′
       record { numbers = sixty FeedSized (BadState state) lacks (b .0); refused = λ _. b .1; done = λ z. differ 60 0 refl (b .0) z }
 
   module _ (m : length report ≡ reportSize) (k : length area ≡ 65536) where
-    feed-fifty-nine : length state ≡ stateSize → feedBar state report area ≡ 59 → ((c : Collector) → Loads state c → ⊥) → TrunkCall state r FeedSized FeedSame FeedDone
+    feed-fifty-nine : length state ≡ stateSize → feedBar state report area ≡ 59
+        → ((c : Collector) → Loads state c → ⊥) → TrunkCall state r FeedSized FeedSame FeedDone
     feed-fifty-nine n e lacks =
         let b = feed-barred 59 refl e in
         record {
@@ -270,7 +272,8 @@ module _ (state report : List ℕ) (r reported : ℕ) (state′ report′ : List
       record { numbers = sixty SilenceSized (BadState state) lacks (b .0); refused = λ _. b .1; done = λ z. differ 60 0 refl (b .0) z }
 
   module _ (m : length report ≡ reportSize) where
-    silence-fifty-nine : length state ≡ stateSize → silenceBar state report ≡ 59 → ((c : Collector) → Loads state c → ⊥) → TrunkCall state r SilenceSized SilenceSame SilenceDone
+    silence-fifty-nine : length state ≡ stateSize → silenceBar state report ≡ 59
+        → ((c : Collector) → Loads state c → ⊥) → TrunkCall state r SilenceSized SilenceSame SilenceDone
     silence-fifty-nine n e lacks =
         let b = silence-barred 59 refl e in
         record {
@@ -564,20 +567,25 @@ exported-npdu-write fields area r wrote later y =
 pub exported-apdu-write : ExportedApduWrite
 unfolding apduFault
 exported-apdu-write fields area r wrote later y =
-    writes-from (length fields ≡ apduSize) (eqb (length fields) apduSize) (pick (leb (oct fields 0) 7) (HeaderFault.faultOf (apduAt fields)) 21) _ area r wrote later (eqb-true _ _) (eq-eqb _ _)
-    (pick-case Not-sixty (leb (oct fields 0) 7) (λ z. ⊎-elim (λ e. differ 0 60 refl e z) (λ q. absurd (omega (arith, q .1))) (header-writer-numbers (apduAt fields))) (λ z. omega arith)) y
+    writes-from (length fields ≡ apduSize) (eqb (length fields) apduSize) (pick (leb (oct fields 0) 7) (HeaderFault.faultOf (apduAt fields)) 21) _ area r wrote later
+    (eqb-true _ _) (eq-eqb _ _)
+    (pick-case Not-sixty (leb (oct fields 0) 7)
+    (λ z. ⊎-elim (λ e. differ 0 60 refl e z) (λ q. absurd (omega (arith, q .1))) (header-writer-numbers (apduAt fields))) (λ z. omega arith)) y
 
 pub exported-service-write : ExportedServiceWrite
 unfolding serviceFault
 exported-service-write fields value area r wrote later y =
-    writes-from (length fields ≡ serviceSize) (eqb (length fields) serviceSize) (pick (leb (oct fields 0) 5) (ServiceWriter.faultOf (serviceAt fields) value) 43) _ area r wrote later (eqb-true _ _) (eq-eqb _ _)
-    (pick-case Not-sixty (leb (oct fields 0) 5) (λ z. ⊎-elim (λ e. differ 0 60 refl e z) (λ q. absurd (omega (arith, q .1))) (service-writer-numbers (serviceAt fields) value)) (λ z. omega arith)) y
+    writes-from (length fields ≡ serviceSize) (eqb (length fields) serviceSize) (pick (leb (oct fields 0) 5) (ServiceWriter.faultOf (serviceAt fields) value) 43) _ area r wrote later
+    (eqb-true _ _) (eq-eqb _ _)
+    (pick-case Not-sixty (leb (oct fields 0) 5)
+    (λ z. ⊎-elim (λ e. differ 0 60 refl e z) (λ q. absurd (omega (arith, q .1))) (service-writer-numbers (serviceAt fields) value)) (λ z. omega arith)) y
 
 -- 62 or none
 items-fault : (listed source : List ℕ) → Not-sixty (writeFault listed source)
 unfolding writeFault
 items-fault listed source =
-    pick-case Not-sixty (eqb (length listed % 12) 0) (pick-case Not-sixty (goodRecords source (recordsIn listed)) (λ z. omega arith) (λ z. omega arith)) (λ z. omega arith)
+    pick-case Not-sixty (eqb (length listed % 12) 0)
+    (pick-case Not-sixty (goodRecords source (recordsIn listed)) (λ z. omega arith) (λ z. omega arith)) (λ z. omega arith)
 
 pub exported-items-write : ExportedItemsWrite
 exported-items-write listed source area r wrote later y =

@@ -257,7 +257,8 @@ shown-ranges (WhoIs w) ts k e m f r d = (λ h. rw h (limits-in (w .low) (w .high
     limited-so h = rw h at d
 shown-ranges (IAm i) ts k e m f r d = (ltb-false lastInstance (i .instance) e, k .0, segmentation-in (i .segmentation) _ _ _ (omega (arith, k .1)) m f r am-so, k .2)
   where
-    am-so : application 12 (digits 4 (8 * 4194304 + i .instance)) ∷ application 2 (shortest (i .longest)) ∷ application 9 (shortest (i .segmentation)) ∷ application 2 (shortest (i .vendor)) ∷ [] ≡ thingsOfMessage m
+    am-so : application 12 (digits 4 (8 * 4194304 + i .instance)) ∷ application 2 (shortest (i .longest))
+        ∷ application 9 (shortest (i .segmentation)) ∷ application 2 (shortest (i .vendor)) ∷ [] ≡ thingsOfMessage m
     am-so = d
 shown-ranges (Error x) ts k e m f r d = k
 
@@ -305,7 +306,8 @@ shown-valid v ts k g e os w d =
       };
     }
 
-whole-shows : (v : Service) (value : List ℕ) (ts : List Thing) → KeptService v → Grammar ts → value ≡ encodeAll ts → tooWide v ≡ false → Octets (octetsOf v value) → (w : Service)
+whole-shows : (v : Service) (value : List ℕ) (ts : List Thing) → KeptService v → Grammar ts → value ≡ encodeAll ts
+    → tooWide v ≡ false → Octets (octetsOf v value) → (w : Service)
     → readService (kindOf v) (choiceOf v) (octetsOf v value) ≡ Answered.Good w → Shows (kindOf v) (choiceOf v) (octetsOf v value) (messageOf (shownService v) ts)
 whole-shows v value ts k g e n os w d = rw e (shows-shown v ts (shown-valid v ts k g n (rw e at os) w (rw e at d)))
 
