@@ -17,3 +17,5 @@ pub mod StateOctets
 pub mod Completed
 pub mod CompletedRun
 pub mod Damage
+pub mod Exported
+pub mod ServicesBack

@@ -21,11 +21,12 @@ use Rattle.npdu.proofs.Trips as NetworkWritten
 use Rattle.apdu.proofs.Exact.{exact}
 use Rattle.apdu_writer.proofs.Trips.{write-read, read-write}
 use Rattle.tags.proofs.Exact.{head-sound, head-complete}
+use Rattle.tags.specs.Layout.{Thing}
 use Rattle.items.specs.Grammar.{encodeAll}
 use Rattle.items.proofs.Exact as Items
 use Rattle.item_writer.proofs.Trips as Trips
 use Rattle.services.specs.Layout.{optional, pointed, thingsOfMessage, encode}
-use Rattle.services.specs.Shows.{pointedOf, messageOf, Shows}
+use Rattle.services.specs.Shows.{pointedOf, messageOf, Shows, ValidFor}
 use Rattle.services.specs.declared.Service.{Service}
 use Rattle.services.specs.declared.Service.the-variants.{ReadProperty, ReadPropertyAck, WriteProperty, WhoIs, IAm, Error}
 use Rattle.services.specs.declared.Target.{Target}
@@ -33,7 +34,7 @@ use Rattle.services.proofs.Exact as Services
 use Rattle.service_writer.specs.Writing.{kindOf, choiceOf, ranked, octetsOf, wideTarget, tooWide, faultOf}
 use Rattle.service_writer.proofs.Trips as ServiceTrips
 use Rattle.demands.specs.Words.{shownTarget, shownService}
-use Rattle.demands.specs.Demands.{HeaderCheckExact, DataCheckExact, FramesExact, NetworkExact, NetworkWritesBack, NetworkReadsBack, HeadersExact, HeadersWriteBack, HeadersReadBack, TagsExact, ItemsExact, ItemsWriteBack, ItemsReadBack, ServicesExact, ServicesWriteBack, ServicesReadBack}
+use Rattle.demands.specs.Demands.{HeaderCheckExact, DataCheckExact, FramesExact, NetworkExact, NetworkWritesBack, NetworkReadsBack, HeadersExact, HeadersWriteBack, HeadersReadBack, TagsExact, ItemsExact, ItemsWriteBack, ItemsReadBack, ServicesExact, ServicesWriteBack, ServicesAreWritten}
 use Rattle.demands.proofs.One.{writers-refuse}
 
 -- ---- frames
@@ -102,11 +103,11 @@ pub services-write-back : ServicesWriteBack
 services-write-back kind choice o area later v r os e h l = let b = ServiceTrips.writes-back kind choice o os v e in laid-back _ _ o area later r (b .fine) (b .octets) h l
 
 -- an absent part is not looked at
-optional-shown : (here : Bool) (n x : ℕ) → optional here n (pick here x 0) ≡ optional here n x
+pub optional-shown : (here : Bool) (n x : ℕ) → optional here n (pick here x 0) ≡ optional here n x
 optional-shown true n x = refl
 optional-shown false n x = refl
 
-pointed-shown : (t : Target) → pointed (pointedOf (shownTarget t)) ≡ pointed (pointedOf t)
+pub pointed-shown : (t : Target) → pointed (pointedOf (shownTarget t)) ≡ pointed (pointedOf t)
 unfolding pointed
 pointed-shown t = rw (optional-shown (t .indexed) 2 (t .index))
 
@@ -137,13 +138,18 @@ fault-shown : (v : Service) (value : List ℕ) → faultOf (shownService v) valu
 unfolding faultOf
 fault-shown v value = let s = same-for v in rw (s .kind, s .choice, s .wide, octets-shown v value)
 
-pub services-read-back : ServicesReadBack
-services-read-back v ts area later r ok h l =
+pub shows-shown : (v : Service) (ts : List Thing) → ValidFor (kindOf v) (choiceOf v) (messageOf (shownService v) ts)
+    → Shows (kindOf v) (choiceOf v) (octetsOf v (encodeAll ts)) (messageOf (shownService v) ts)
+shows-shown v ts ok =
+    let s = same-for v in
+    rw (s .kind, s .choice, octets-shown v (encodeAll ts)) at (ServiceTrips.reads-back (shownService v) ts (rw (s .kind, s .choice) ok) .shows)
+
+pub services-are-written : ServicesAreWritten
+services-are-written v ts area later r ok h l =
     let s = same-for v in
     let value = encodeAll ts in
     let b = ServiceTrips.reads-back (shownService v) ts (rw (s .kind, s .choice) ok) in
     let o = octetsOf v value in
     let w = laid-back _ o o area later r (sym (fault-shown v value) ∙ b .fine) refl h l in
     let t : take (length o) later ≡ o = ap (take (length o)) (w .1) ∙ take-at o (drop (length o) area) (length o) refl in
-    let k : Shows (kindOf v) (choiceOf v) o (messageOf (shownService v) ts) = rw (s .kind, s .choice, octets-shown v value) at (b .shows) in
-    (length o, w .0, rw t k)
+    (length o, w .0, rw t (shows-shown v ts ok))

@@ -59,6 +59,8 @@ use Rattle.services.specs.Shows as Services
 use Rattle.services.specs.Layout as ServiceLayout
 use Rattle.services.specs.declared.Answer as ServiceAnswer
 use Rattle.services.specs.declared.Service.{Service}
+use Rattle.services.specs.declared.Service.the-variants.{WriteProperty}
+use Rattle.services.specs.declared.Target.{Target}
 use Rattle.service_writer.specs.Writing as ServiceWriter
 use Rattle.messages.specs.Slots.{Segment, Box, part, room, boxed, empty, slotAt}
 use Rattle.messages.specs.Rows.{rebuild}
@@ -84,7 +86,7 @@ use Rattle.state.specs.Layout.{stateOctets, Fits}
 use Rattle.state.specs.Calls.{Loads}
 use Rattle.hitchbarley.specs.Trunk.{stateBy}
 use Rattle.hitchbarley.specs.Offering.{Heard, Linked}
-use Rattle.demands.specs.Words.{One, Between, SixtyThenFiftyNine, BrokenReceiver, Broken, Four, WritesBy, SegmentChanges, unfedBy, quietBy, FeedChanges, shownService}
+use Rattle.demands.specs.Words.{One, Between, SixtyThenFiftyNine, BrokenReceiver, Broken, Four, WritesBy, SegmentChanges, unfedBy, quietBy, FeedChanges, shownService, KeptService, AcceptedBack, WholeBack}
 
 -- ---- DEMAND 1. "Every call, on any octets, records, slot numbers or areas, stays in bounds and ends. Bad input gets the refusal number that document 01
 -- fixes, and the call changes only what that page then lets it."
@@ -346,13 +348,30 @@ ServicesWriteBack = (kind choice : ℕ) (o area later : List ℕ) (v : Service) 
     → (r ≡ Wrote (length o)) × (later ≡ o ++ drop (length o) area))
 
 -- what keeps the rules, absent parts taken as 0, is written wherever the area is long enough, and reads back as the same message
-abbrev pub ServicesReadBack : Type 0
-ServicesReadBack = (v : Service) (ts : List Tags.Thing) (area later : List ℕ) (r : Written)
+abbrev pub ServicesAreWritten : Type 0
+ServicesAreWritten = (v : Service) (ts : List Tags.Thing) (area later : List ℕ) (r : Written)
     → (let value = Items.encodeAll ts in
     let m = Services.messageOf (shownService v) ts in
     Services.ValidFor (ServiceWriter.kindOf v) (ServiceWriter.choiceOf v) m → length (ServiceWriter.octetsOf v value) ≤ length area
     → Laid (ServiceWriter.faultOf v value) (ServiceWriter.octetsOf v value) area r later
     → (n : ℕ) × (r ≡ Wrote n) × Services.Shows (ServiceWriter.kindOf v) (ServiceWriter.choiceOf v) (take n later) m)
+
+-- what was written reads back: whatever the value's octets are, the output is accepted, since the writer gives "the number that reading their output would give";
+-- where the value is whole items by itself, as the message that was written
+abbrev pub ServicesReadBack : Type 0
+ServicesReadBack = (v : Service) (value area later : List ℕ) (n : ℕ) → Octets later
+    → Laid (ServiceWriter.faultOf v value) (ServiceWriter.octetsOf v value) area (Wrote n) later
+    → AcceptedBack v (take n later) × (KeptService v → WholeBack v value (take n later))
+
+-- the exception: a value that is not. With `0A` as value and 63 as priority, `3E 0A 3F 49 3F` is written; the item's contents are the group's closing and the
+-- priority's tag, the priority's octet closes the group, and what is read is the value `0A 3F 49` without a priority
+abbrev pub ServicesSwallow : Type 0
+ServicesSwallow =
+    (let target : Target = record { object = 0; instance = 5; property = 85; indexed = false; index = 0 } in
+    let v : Service = WriteProperty (record { target = target; value = record { at = 0; len = 0 }; ranked = true; priority = 63 }) in
+    let w : Service = WriteProperty (record { target = target; value = record { at = 8; len = 3 }; ranked = false; priority = 0 }) in
+    let o = ServiceWriter.octetsOf v (0x0A ∷ []) in
+    (ServiceWriter.faultOf v (0x0A ∷ []) ≡ 0) × (readService 0 15 o ≡ ServiceAnswer.Answer.Good w) × (ServiceWriter.valueIn o w ≡ 0x0A ∷ 0x3F ∷ 0x49 ∷ []))
 
 -- ---- DEMAND 3. "From one state that refusal 59 passes and one message area, fix one run of trunk octets with silences and forget orders at fixed places. Cut the
 -- octets anywhere, offer the rest again after each report, lend areas of the right sizes that nobody else writes. Then reports, final state and message area are
@@ -394,9 +413,10 @@ abbrev pub StatesExact : Type 0
 StatesExact = Exactly Loads Fits stateOctets
 
 -- demand 3's first sentence of the exported calls: from a state area that holds a state which 59 passes, however the run is offered by them, reports and message
--- area are the reading's, and the state area holds the state that the reading ends in
+-- area are the reading's, and the state area is then the octets of the state that the reading ends in, and holds it
 abbrev pub ReadOverOctets : Type 0
-ReadOverOctets = (state : List ℕ) (c : Collector) (area : List ℕ) → Loads state c → Passes c → length area ≡ 65536 → (run : Run) (h : Heard)
+ReadOverOctets = (state : List ℕ) (c : Collector) (area : List ℕ) → Octets state → Loads state c → Passes c → length area ≡ 65536 → (run : Run) (h : Heard)
     → Linked (length (heldOf (c .receiver))) state area run h
     → (let e = reading (rules keys bacnet) (c .receiver) (slotsOf c) area run in
-    (h .reports ≡ e .reports) × (h .area ≡ e .area) × Loads (h .state) (stateBy (e .state) (e .slots)))
+    let last = stateBy (e .state) (e .slots) in
+    (h .reports ≡ e .reports) × (h .area ≡ e .area) × (h .state ≡ stateOctets last) × Loads (h .state) last)

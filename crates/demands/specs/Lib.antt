@@ -8,3 +8,4 @@ pub mod NetworkRows
 pub mod StateOctets
 pub mod Completed
 pub mod Damage
+pub mod Exported

@@ -21,9 +21,16 @@ use Rattle.messages.specs.Rows.{Answer, before, awaiting, freeAt, rebuild}
 use Rattle.messages.specs.Rows.Answer.{refused, taken, completed}
 use Rattle.rebuild.specs.View.{keys}
 use Rattle.rebuild.specs.declared.Key.{Key}
+use Rattle.tags.specs.Layout.{Thing}
+use Rattle.items.specs.Grammar.{encodeAll, Grammar}
+use Rattle.services.specs.Parts.{anyNumber}
+use Rattle.services.specs.Reading.{readService}
+use Rattle.services.specs.Shows.{messageOf, Shows}
+use Rattle.services.specs.declared.Answer.the-variants.{Good}
 use Rattle.services.specs.declared.Service.{Service}
 use Rattle.services.specs.declared.Service.the-variants.{ReadProperty, ReadPropertyAck, WriteProperty, WhoIs, IAm, Error}
 use Rattle.services.specs.declared.Target.{Target}
+use Rattle.service_writer.specs.Writing.{kindOf, choiceOf, octetsOf, valueIn}
 use Rattle.reports.specs.Layout.{reportSize}
 use Rattle.collector.specs.Calls.{slotsOf}
 use Rattle.collector.specs.Frame.{segmentAt, plainAt, answeredAt}
@@ -132,3 +139,23 @@ shownService (WriteProperty w) = WriteProperty (record { target = shownTarget (w
 shownService (WhoIs w) = WhoIs (record { limited = w .limited; low = pick (w .limited) (w .low) 0; high = pick (w .limited) (w .high) 0 })
 shownService (IAm i) = IAm i
 shownService (Error f) = Error f
+
+-- the numbers that the types of a service's fields hold; object and instance, which the layout may not hold, are judged by the writer
+abbrev pub KeptTarget : Target → Type 0
+KeptTarget t = (t .property ≤ anyNumber) × (t .index ≤ anyNumber)
+
+abbrev pub KeptService : Service → Type 0
+KeptService (ReadProperty t) = KeptTarget t
+KeptService (ReadPropertyAck a) = KeptTarget (a .target)
+KeptService (WriteProperty w) = KeptTarget (w .target) × (w .priority ≤ 255)
+KeptService (WhoIs w) = (w .low ≤ anyNumber) × (w .high ≤ anyNumber)
+KeptService (IAm i) = (i .longest ≤ anyNumber) × (i .segmentation ≤ 255) × (i .vendor ≤ 65535)
+KeptService (Error f) = (f .class ≤ anyNumber) × (f .code ≤ anyNumber)
+
+-- ---- octets o, written of a service v with a value's octets, read back: they are accepted for its kind and choice, as a service that is written as the same octets
+abbrev pub AcceptedBack : Service → List ℕ → Type 0
+AcceptedBack v o = (w : Service) × (readService (kindOf v) (choiceOf v) o ≡ Good w) × (octetsOf w (valueIn o w) ≡ o)
+
+-- and where the value is whole items by itself, they are the message that was written, absent parts shown as 0
+abbrev pub WholeBack : Service → List ℕ → List ℕ → Type 0
+WholeBack v value o = (ts : List Thing) → Grammar ts → value ≡ encodeAll ts → Shows (kindOf v) (choiceOf v) o (messageOf (shownService v) ts)

@@ -1,0 +1,201 @@
+-- The calls that C and Rust link, as their users read them: each number exactly when, what a refusal leaves, and what is done otherwise, by the statements of
+-- the calls below.
+use Prim.Native.Nat.{ℕ, _≤_, _<_}
+use mathlib.Core.Path.{_≡_}
+use mathlib.Core.Logic.{_↔_, _⊎_}
+use mathlib.Core.Bool.{true, false}
+use mathlib.Core.List.{List, _++_}
+use lib.Dec.{eqb, leb}
+use lib.ListN.{length, take, drop}
+use Rattle.octets.specs.Choice.{pick}
+use Rattle.octets.specs.Reading.{Octets, oct}
+use Rattle.npdu.specs.Reading.{readNpdu}
+use Rattle.npdu.specs.Layout as Network
+use Rattle.npdu.specs.Fault as NetworkFault
+use Rattle.apdu.specs.Reading.{readApdu}
+use Rattle.apdu.specs.Layout as Header
+use Rattle.apdu.specs.Fault as HeaderFault
+use Rattle.items.specs.Grammar as Items
+use Rattle.items.specs.Reading.{itemsOf, counted, itemAt, endOf}
+use Rattle.items.specs.Records.{thingsOf}
+use Rattle.items.specs.Listing.{Listed}
+use Rattle.items.specs.declared.Tally.{Tally}
+use Rattle.items.specs.declared.One as OneItem
+use Rattle.item_judge.specs.Judge.{writeFault, recordsIn}
+use Rattle.reader.specs.Reading.{stepOf}
+use Rattle.reader.specs.declared.Step.the-variants as Step
+use Rattle.services.specs.Reading.{readService}
+use Rattle.service_writer.specs.Writing as ServiceWriter
+use Rattle.messages.specs.Slots.{slotAt}
+use Rattle.rebuild.specs.View.{keys}
+use Rattle.reports.specs.Layout.{reportSize}
+use Rattle.collector.specs.Calls.{slotsOf, freshCollector, Feeds, Stills, Forgets}
+use Rattle.collector.specs.declared.Collector.{Collector}
+use Rattle.collector.specs.declared.Fed.{Fed}
+use Rattle.collector.specs.declared.Fell.{Fell}
+use Rattle.collector.specs.declared.Forgot.{Forgot}
+use Rattle.records.specs.Flag.{flag}
+use Rattle.records.specs.Network.{npduSize, npduRecord, npduAt}
+use Rattle.records.specs.Application.{apduSize, apduAt}
+use Rattle.records.specs.Service.{serviceSize, serviceAt}
+use Rattle.state.specs.Layout.{stateSize, stateOctets}
+use Rattle.state.specs.Calls.{Loads, Saves}
+use Rattle.hitchbarley.specs.Trunk as Trunk
+use Rattle.hitchbarley.specs.Answers.{Writes, Fills, FillsTo}
+use Rattle.hitchbarley.specs.Headers.{apduGood, apduNumber, apduOctets, apduParams, npduFault, apduFault}
+use Rattle.hitchbarley.specs.Items.{tallyNumber, tallyCount, Counts, Lists, Steps, stepGood, stepNumber, stepRecord, stepPlace}
+use Rattle.hitchbarley.specs.Services.{serviceGood, serviceNumber, serviceOctets, serviceFault}
+use Rattle.demands.specs.Words.{SixtyThenFiftyNine, Broken, AcceptedBack, WholeBack}
+
+-- ---- the calls of one trunk, over a state area
+-- the area's octets are a state's, of which P holds
+abbrev pub Holding : List ℕ → (Collector → Type 0) → Type 0
+Holding state P = (c : Collector) × Loads state c × P c
+
+-- 59: octets that are no state's, or a state that 59 names
+abbrev pub BadState : List ℕ → Type 0
+BadState state = ((c : Collector) → Loads state c → ⊥) ⊎ Holding state Broken
+
+-- a call with number r. Sized: each lent area has its own size. Same: no area has changed, and what is given back is 0. Done: what is done otherwise
+pub record TrunkCall (state : List ℕ) (r : ℕ) (Sized Same Done : Type 0) : Type 0 where
+  pub numbers : SixtyThenFiftyNine r Sized (BadState state)
+  pub refused : (r ≡ 0 → ⊥) → Same
+  pub done : r ≡ 0 → Done
+
+-- what is done: the collector's call of the state that the area holds, with an answer x for which Does holds. It leaves the state `later x`, and the area
+-- is then the octets of that state
+pub record Carried (A : Type 0) (later : A → Collector) (Does : Collector → A → Type 0) (state state′ : List ℕ) : Type 0 where
+  pub held : Collector
+  pub loads : Loads state held
+  pub answer : A
+  pub does : Does held answer
+  pub octets : state′ ≡ stateOctets (later answer)
+  pub again : Loads state′ (later answer)
+
+-- hb_fresh: 60 exactly for an area of another size, which stays; else 0, and the octets of the fresh state
+abbrev pub ExportedFresh : Type 0
+ExportedFresh = (state : List ℕ) (r : ℕ) (state′ : List ℕ) → Saves freshCollector state r state′
+    → ((r ≡ 60) ↔ (length state ≡ stateSize → ⊥))
+    × ((r ≡ 0) ↔ (length state ≡ stateSize))
+    × ((r ≡ 0 → ⊥) → state′ ≡ state)
+    × (r ≡ 0 → (state′ ≡ stateOctets freshCollector) × Loads state′ freshCollector)
+
+-- hb_feed: "60: report area not 16 octets or message area not 65,536; eaten 0", the state area's size with them; what it does is what FeedDoes says of the
+-- collector's call
+abbrev pub ExportedFeed : Type 0
+ExportedFeed = (state piece report area : List ℕ) (r eaten reported : ℕ) (state′ report′ area′ : List ℕ) → Octets state
+    → Trunk.Feeds state report area piece r eaten reported state′ report′ area′
+    → TrunkCall state r ((length state ≡ stateSize) × (length report ≡ reportSize) × (length area ≡ 65536))
+    ((eaten ≡ 0) × (reported ≡ 0) × (state′ ≡ state) × (report′ ≡ report) × (area′ ≡ area))
+    (Carried Fed (λ f. f .state)
+    (λ c f. (f .refused ≡ 0) × (eaten ≡ f .eaten) × (reported ≡ flag (f .reported)) × Feeds c report area piece f report′ area′) state state′)
+
+-- hb_silence: the same without a message area; SilenceDoes
+abbrev pub ExportedSilence : Type 0
+ExportedSilence = (state report : List ℕ) (r reported : ℕ) (state′ report′ : List ℕ) → Octets state → Trunk.Stills state report r reported state′ report′
+    → TrunkCall state r ((length state ≡ stateSize) × (length report ≡ reportSize))
+    ((reported ≡ 0) × (state′ ≡ state) × (report′ ≡ report))
+    (Carried Fell (λ f. f .state) (λ c f. (f .refused ≡ 0) × (reported ≡ flag (f .reported)) × Stills c report f report′) state state′)
+
+-- hb_forget: "Forgetting frees a slot, answers 0, 59 or 56": 60 first, of the state area; 56 for "a slot not open or above 3"; ForgetDoes
+pub record ForgetCall (state : List ℕ) (s r : ℕ) (state′ : List ℕ) : Type 0 where
+  pub sixty : (r ≡ 60) ↔ (length state ≡ stateSize → ⊥)
+  pub fifty-nine : (r ≡ 59) ↔ ((length state ≡ stateSize) × BadState state)
+  pub fifty-six : (r ≡ 56) ↔ Holding state (λ c. (Broken c → ⊥) × ((slotAt keys (slotsOf c) s .used ≡ false) ⊎ (3 < s)))
+  pub none : (r ≡ 0) ↔ Holding state (λ c. (Broken c → ⊥) × (slotAt keys (slotsOf c) s .used ≡ true))
+  pub refused : (r ≡ 0 → ⊥) → state′ ≡ state
+  pub done : r ≡ 0 → Carried Forgot (λ f. f .state) (λ c f. (f .number ≡ 0) × Forgets c s f) state state′
+
+abbrev pub ExportedForget : Type 0
+ExportedForget = (state : List ℕ) (s r : ℕ) (state′ : List ℕ) → Octets state → Trunk.Forgets state s r state′ → ForgetCall state s r state′
+
+-- ---- readers into a record area of its size: 60 exactly for another size, else the number n of the call below; Filled where that read something, which
+-- Some says, and Kept else
+pub record ReadsInto (size n : ℕ) (area : List ℕ) (r : ℕ) (Some Kept Filled : Type 0) : Type 0 where
+  pub sixty : (r ≡ 60) ↔ (length area ≡ size → ⊥)
+  pub below : length area ≡ size → r ≡ n
+  pub refused : (r ≡ 0 → ⊥) → Kept
+  pub nothing : (Some → ⊥) → Kept
+  pub filled : r ≡ 0 → Some → Filled
+
+abbrev pub ExportedNpduRead : Type 0
+ExportedNpduRead = (s fields : List ℕ) (r next : ℕ) (fields′ : List ℕ)
+    → (let h = readNpdu s in
+    FillsTo npduSize (eqb (h .refused) 0) (h .refused) (npduRecord (h .head)) (h .next) fields r next fields′
+    → ReadsInto npduSize (h .refused) fields r Unit ((fields′ ≡ fields) × (next ≡ 0)) ((fields′ ≡ npduRecord (h .head)) × (next ≡ h .next)))
+
+abbrev pub ExportedApduRead : Type 0
+ExportedApduRead = (s fields : List ℕ) (r next : ℕ) (fields′ : List ℕ)
+    → (let a = readApdu s in
+    FillsTo apduSize (apduGood a) (apduNumber a) (apduOctets a) (apduParams a) fields r next fields′
+    → ReadsInto apduSize (apduNumber a) fields r Unit ((fields′ ≡ fields) × (next ≡ 0)) ((fields′ ≡ apduOctets a) × (next ≡ apduParams a)))
+
+-- the reader's step: at the end nothing is read, which is no refusal
+abbrev pub ExportedStep : Type 0
+ExportedStep = (s : List ℕ) (at : ℕ) (item : List ℕ) (r next : ℕ) (item′ : List ℕ)
+    → (let x = stepOf s at in
+    FillsTo 12 (stepGood x) (stepNumber x) (stepRecord x) (stepPlace x) item r next item′
+    → ReadsInto 12 (stepNumber x) item r (x ≡ Step.End → ⊥) ((item′ ≡ item) × (next ≡ 0)) ((item′ ≡ stepRecord x) × (next ≡ stepPlace x)))
+
+abbrev pub ExportedServiceRead : Type 0
+ExportedServiceRead = (kind choice : ℕ) (s fields : List ℕ) (r : ℕ) (fields′ : List ℕ)
+    → (let a = readService kind choice s in
+    Fills serviceSize (serviceGood a) (serviceNumber a) (serviceOctets a) fields r fields′
+    → ReadsInto serviceSize (serviceNumber a) fields r Unit (fields′ ≡ fields) (fields′ ≡ serviceOctets a))
+
+-- ---- counting, listing and stepping over an item: the answer of the call below as its number and what it gives back, 0 with a refusal
+abbrev pub ExportedCount : Type 0
+ExportedCount = (s : List ℕ) (r count : ℕ) → Counts s r count
+    → ((n : ℕ) → counted (itemsOf s) ≡ Tally.Items n → (r ≡ 0) × (count ≡ n))
+    × ((x : ℕ) → counted (itemsOf s) ≡ Tally.Refused x → (r ≡ x) × (count ≡ 0))
+
+-- the listing is the one of which ListingRefuses speaks
+abbrev pub ExportedList : Type 0
+ExportedList = (s area : List ℕ) (r count : ℕ) (later : List ℕ) → Lists s area r count later
+    → (t : Tally) × Listed s area t later × (r ≡ tallyNumber t) × (count ≡ tallyCount t)
+
+abbrev pub ExportedNext : Type 0
+ExportedNext = (s : List ℕ) (at r next : ℕ) → Steps s at r next
+    → ((n : ℕ) → endOf (itemAt s at) ≡ OneItem.One.Next n → (r ≡ 0) × (next ≡ n))
+    × ((x : ℕ) → endOf (itemAt s at) ≡ OneItem.One.Refused x → (r ≡ x) × (next ≡ 0))
+
+-- ---- writers from a record of its size: 60 exactly for another size; else the number f that the record deserves, "61 last"; a refusal changes nothing, and
+-- "nothing past a result is written"
+pub record WritesFrom (Sized : Type 0) (f : ℕ) (o area : List ℕ) (r wrote : ℕ) (later : List ℕ) : Type 0 where
+  pub sixty : (r ≡ 60) ↔ (Sized → ⊥)
+  pub faulty : Sized → (f ≡ 0 → ⊥) → r ≡ f
+  pub short : Sized → f ≡ 0 → length area < length o → r ≡ 61
+  pub fine : Sized → f ≡ 0 → length o ≤ length area → (r ≡ 0) × (wrote ≡ length o) × (later ≡ o ++ drop (length o) area)
+  pub refused : (r ≡ 0 → ⊥) → (wrote ≡ 0) × (later ≡ area)
+
+abbrev pub ExportedNpduWrite : Type 0
+ExportedNpduWrite = (fields area : List ℕ) (r wrote : ℕ) (later : List ℕ)
+    → (let o = Network.encode (npduAt fields) in
+    Writes (npduFault fields) o area r wrote later → WritesFrom (length fields ≡ npduSize) (NetworkFault.faultOf (npduAt fields)) o area r wrote later)
+
+-- 21: a type above 7
+abbrev pub ExportedApduWrite : Type 0
+ExportedApduWrite = (fields area : List ℕ) (r wrote : ℕ) (later : List ℕ)
+    → (let o = Header.header (apduAt fields) in
+    Writes (apduFault fields) o area r wrote later
+    → WritesFrom (length fields ≡ apduSize) (pick (leb (oct fields 0) 7) (HeaderFault.faultOf (apduAt fields)) 21) o area r wrote later)
+
+-- 62 is all that is said of the records, so 60 is never given
+abbrev pub ExportedItemsWrite : Type 0
+ExportedItemsWrite = (listed source area : List ℕ) (r wrote : ℕ) (later : List ℕ)
+    → (let o = Items.encodeAll (thingsOf source (recordsIn listed)) in
+    Writes (writeFault listed source) o area r wrote later → WritesFrom Unit (writeFault listed source) o area r wrote later)
+
+-- 43: none of the six services
+abbrev pub ExportedServiceWrite : Type 0
+ExportedServiceWrite = (fields value area : List ℕ) (r wrote : ℕ) (later : List ℕ)
+    → (let o = ServiceWriter.octetsOf (serviceAt fields) value in
+    Writes (serviceFault fields value) o area r wrote later
+    → WritesFrom (length fields ≡ serviceSize) (pick (leb (oct fields 0) 5) (ServiceWriter.faultOf (serviceAt fields) value) 43) o area r wrote later)
+
+-- what hb_service_write wrote reads back, for the kind and choice of the record's service: ServicesReadBack over records
+abbrev pub ExportedServiceBack : Type 0
+ExportedServiceBack = (fields value area : List ℕ) (wrote : ℕ) (later : List ℕ) → Octets fields → Octets later
+    → (let v = serviceAt fields in
+    Writes (serviceFault fields value) (ServiceWriter.octetsOf v value) area 0 wrote later
+    → AcceptedBack v (take wrote later) × WholeBack v value (take wrote later))
