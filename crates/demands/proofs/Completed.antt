@@ -10,7 +10,7 @@ use mathlib.Core.Option.{Option, none, some}
 use lib.Dec.{eqb, ltb}
 use lib.ListN.{length, length-set, drop}
 use borrow.Author.Tests.{eq-eqb, ne-eqb, eqb-true, le-leb, lt-leb}
-use Rattle.octets.specs.Choice.{both-left, pick-case, given-cases, by-test, impossible}
+use Rattle.octets.specs.Choice.{both, non, both-left, pick-case, pick-cases, given-cases, by-test, impossible}
 use Rattle.octets.specs.Reading.{oct}
 use Rattle.octets.specs.Numbers.{valueAt, digits-four}
 use Rattle.runs.specs.Run.{Event, Run, wire, Trace, ended, last, Ends, ends, acted, walk}
@@ -28,7 +28,7 @@ use Rattle.apdu.specs.declared.Answer.the-variants.{Good, Refused}
 use Rattle.items.specs.Reading as Items
 use Rattle.items.specs.Reading.{itemsOf, counted}
 use Rattle.items.specs.Reading.Out.{good, bad}
-use Rattle.messages.specs.Slots.{Segment, Slot, Box, boxed, room, part, slotAt}
+use Rattle.messages.specs.Slots.{Segment, Slot, Box, boxed, room, part, slotAt, lowest, orElse, isSome, isFree, slotOf}
 use Rattle.messages.specs.Rows as Rows
 use Rattle.messages.specs.Rows.{Answer, startsAt, rebuild}
 use Rattle.messages.specs.Rows.Answer.{refused, taken, completed}
@@ -56,7 +56,7 @@ use Rattle.hitchbarley.proofs.Demand.{octets-demand3}
 use Rattle.hitchbarley.proofs.Offerable as Offerable
 use Rattle.demands.specs.Words.{Between, SegmentChanges}
 use Rattle.demands.specs.Completed.{kindIn, numberIn, slotIn, lengthIn, keyIn, tagNumber, answerIn, reportAt, segmentEnding, heardEntry, heardLog, heardFrom}
-use Rattle.demands.specs.Completed.{Whole, WholeButTags, AsReported, CompletedAsReported, CompletedOverOctets, CanBeLinked}
+use Rattle.demands.specs.Completed.{Whole, WholeButTags, OfSegment, AsReported, CompletedAsReported, CompletedOverOctets, CanBeLinked}
 use Rattle.demands.proofs.Numbers.{count-numbers}
 use Rattle.demands.proofs.Segments.{segment-does}
 use Rattle.demands.proofs.Three.{read-by-position, can-be-offered, reached-passes}
@@ -92,7 +92,7 @@ content-in w payload u m o e =
 -- ---- the report r of a segment of key k, by its answer w and the area after it
 data Told (k : Key) (w : Answer) (area r : List ℕ) : Type 0 where
   not-taken : (n : ℕ) → w ≡ refused n → Between 50 55 n → kindIn r ≡ 6 → numberIn r ≡ n → Told k w area r
-  more : (i n : ℕ) → w ≡ taken i n → kindIn r ≡ 4 → Told k w area r
+  more : (i n : ℕ) → w ≡ taken i n → kindIn r ≡ 4 → keyIn r ≡ k → Told k w area r
   fine : (i n : ℕ) → w ≡ completed i n → kindIn r ≡ 5 → slotIn r ≡ i → lengthIn r ≡ n → keyIn r ≡ k
       → ((x : ℕ) → itemsOf (part (room * i) n area) ≡ bad x → ⊥) → Told k w area r
   faulty : (i n : ℕ) → w ≡ completed i n → kindIn r ≡ 6 → Between 30 39 (numberIn r)
@@ -106,12 +106,19 @@ bad-row : (s : List ℕ) (x : ℕ) → itemsOf s ≡ bad x → Between 30 39 x
 unfolding counted
 bad-row s x e = count-numbers s .0 x (ap counted e)
 
+-- the key that a report names is the segment's
+abbrev keyBy : Heard → Parts → ℕ → Key
+keyBy w m kind = record { source = w .frame .source; destination = w .frame .destination; kind = kind; invoke = m .apdu .invoke }
+
+key-back : (w : Heard) (m : Parts) → Typed m → keyBy w m (m .apdu .first / 16) ≡ keyOf w m
+key-back w m ok = ap (keyBy w m) ok
+
 told-tags : (w : Heard) (m : Parts) (i n : ℕ) (area : List ℕ) (y : Items.Out) → itemsOf (part (room * i) n area) ≡ y → n ≤ room → Typed m
     → Told (keyOf w m) (completed i n) area (reportOctets (byTags y (complete (w .frame) (m .apdu) i n)))
 unfolding reportOctets
 told-tags w m i n area (good rs end) e h ok =
     fine i n refl refl refl (length-back (complete (w .frame) (m .apdu) i n) h)
-    (ap (λ (k : ℕ). record { source = w .frame .source; destination = w .frame .destination; kind = k; invoke = m .apdu .invoke }) ok) (λ x q. impossible (cc))
+    (key-back w m ok) (λ x q. impossible (cc))
 told-tags w m i n area (bad x) e h ok = faulty i n refl refl (bad-row (part (room * i) n area) x e) e
 
 module _ (w : Heard) (m : Parts) (a : List ℕ) (ok : Typed m) (g : Segment Key) (is : segmentFrom w m a ≡ g) (b : Box Key) where
@@ -122,7 +129,7 @@ module _ (w : Heard) (m : Parts) (a : List ℕ) (ok : Typed m) (g : Segment Key)
       row : {A B : Type 0} → (Between 50 53 n × A) ⊎ (Between 54 55 n × B) → Between 50 55 n
       row (inl x) = (x .0 .0, omega (arith, x .0 .1))
       row (inr x) = (omega (arith, x .0 .0), x .0 .1)
-  by-answer (taken i n) slots area h = more i n refl refl
+  by-answer (taken i n) slots area h = more i n refl refl (key-back w m ok ∙ ap (λ (g : Segment Key). g .key) is)
   by-answer (completed i n) slots area h =
       subst (λ (k : Key). Told k (completed i n) area (reportOctets (stepReport w m (stepOf (completed i n)) area))) (ap (λ (g : Segment Key). g .key) is)
       (told-tags w m i n area (itemsOf (part (room * i) n area)) refl (h .fits) ok)
@@ -149,28 +156,69 @@ segment-told (damage n) g e b = impossible (cc)
 -- accepted or not is what the report says
 accepted-told : (k : Key) (w : Answer) (area r : List ℕ) → Told k w area r → accepted w ≡ accepted (answerIn r)
 accepted-told k w area r (not-taken n e b d q) = rw (e, d, q, le-leb 30 n (omega (arith, b .0)), lt-leb n 39 (omega (arith, b .0)))
-accepted-told k w area r (more i n e d) = rw (e, d)
+accepted-told k w area r (more i n e d y) = rw (e, d)
 accepted-told k w area r (fine i n e d s l y f) = rw (e, d)
 accepted-told k w area r (faulty i n e d b f) = rw (e, d, le-leb 30 (numberIn r) (b .0), le-leb (numberIn r) 39 (b .1))
 
--- a frame that carries no segment completes nothing
-tags-kind : (r : Report) (y : Items.Out) → r .kind ≡ 3 → kindIn (reportOctets (byTags y r)) ≡ 5 → ⊥
-unfolding reportOctets
-tags-kind r (good rs end) k e = omega (arith, k, e)
-tags-kind r (bad x) k e = omega (arith, e)
+-- a frame that carries no segment takes and completes nothing
+module _ (kind : ℕ) (four-five : Between 4 5 kind) where
+  tags-kind : (r : Report) (y : Items.Out) → r .kind ≡ 3 → kindIn (reportOctets (byTags y r)) ≡ kind → ⊥
+  unfolding reportOctets
+  tags-kind r (good rs end) k e = omega (arith, four-five .0, k, e)
+  tags-kind r (bad x) k e = omega (arith, four-five .1, e)
 
-plain-kind : (w : Heard) (x : Content) → kindIn (reportOctets (plainReport w x)) ≡ 5 → ⊥
-unfolding reportOctets
-plain-kind w (other n) e = omega (arith, e)
-plain-kind w (refuses n) e = omega (arith, e)
-plain-kind w (network v n) e = omega (arith, e)
-plain-kind w (refusesBehind v n) e = omega (arith, e)
-plain-kind w (message v m a) e = tags-kind (unsegmented (w .frame) (m .apdu) (length a)) (itemsOf (paramsOf m a)) refl e
+  plain-kind : (w : Heard) (x : Content) → kindIn (reportOctets (plainReport w x)) ≡ kind → ⊥
+  unfolding reportOctets
+  plain-kind w (other n) e = omega (arith, four-five .0, e)
+  plain-kind w (refuses n) e = omega (arith, four-five .1, e)
+  plain-kind w (network v n) e = omega (arith, four-five .1, e)
+  plain-kind w (refusesBehind v n) e = omega (arith, four-five .1, e)
+  plain-kind w (message v m a) e = tags-kind (unsegmented (w .frame) (m .apdu) (length a)) (itemsOf (paramsOf m a)) refl e
 
-out-kind : (o : Out) → kindIn (plainAt o) ≡ 5 → ⊥
-unfolding reportOctets
-out-kind (whole head payload) e = plain-kind (heardOf head) (contentOf (heardOf head) payload) e
-out-kind (damage n) e = omega (arith, e)
+  out-kind : (o : Out) → kindIn (plainAt o) ≡ kind → ⊥
+  unfolding reportOctets
+  out-kind (whole head payload) e = plain-kind (heardOf head) (contentOf (heardOf head) payload) e
+  out-kind (damage n) e = omega (arith, four-five .0, e)
+
+-- ---- the answer to a segment, by its MOR
+module _ (g : Segment Key) where
+  data ByMor (d : Rows.Done Key) : Type 0 where
+    refuses-it : (n : ℕ) → d .answer ≡ refused n → ByMor d
+    takes-it : g .mor ≡ true → (i n : ℕ) → d .answer ≡ taken i n → ByMor d
+    completes-it : g .mor ≡ false → (i n : ℕ) → d .answer ≡ completed i n → ByMor d
+
+  found-mor : (x : Option ℕ) (n : ℕ) (b : Box Key) → ByMor (Rows.settled keys g x n b)
+  found-mor none n b = refuses-it 50 refl
+  found-mor (some i) n b =
+      let total = n + length (g .octets) in
+      pick-cases ByMor (g .mor) (λ t. takes-it t i total refl) (λ t. completes-it t i total refl)
+
+  fitted-mor : (o : Option ℕ) (n : ℕ) (b : Box Key) → ByMor (Rows.fitted keys g o n b)
+  fitted-mor o n b =
+      pick-case ByMor (Rows.spent (g .number) (g .mor)) (refuses-it 55 refl)
+      (pick-case ByMor (ltb room (n + length (g .octets))) (refuses-it 54 refl) (found-mor (orElse o (lowest (isFree keys) (b .slots))) n b))
+
+  rows-mor : (o : Option ℕ) (t : Slot Key) (b : Box Key) → ByMor (Rows.rows keys g o t b)
+  rows-mor o t b =
+      let anew = Rows.starts keys g o t in
+      let later = both (isSome o) (non anew) in
+      pick-case ByMor (both (non anew) (non (isSome o))) (refuses-it 51 refl)
+      (pick-case ByMor (both later (non (eqb (g .number) (t .next)))) (refuses-it 52 refl)
+      (pick-case ByMor (both later (non (eqb (g .choice) (t .choice)))) (refuses-it 53 refl) (fitted-mor o (Rows.before keys g o t) b)))
+
+  by-mor : (b : Box Key) → ByMor (rebuild keys g b)
+  unfolding rebuild
+  by-mor b = let o = slotOf keys (g .key) (b .slots) in rows-mor o (Rows.recordAt keys (b .slots) o) b
+
+  taken-mor : (d : Rows.Done Key) → ByMor d → (i n : ℕ) → d .answer ≡ taken i n → g .mor ≡ true
+  taken-mor d (refuses-it m e) i n w = impossible (cc)
+  taken-mor d (takes-it t j m e) i n w = t
+  taken-mor d (completes-it t j m e) i n w = impossible (cc)
+
+  completed-mor : (d : Rows.Done Key) → ByMor d → (i n : ℕ) → d .answer ≡ completed i n → g .mor ≡ false
+  completed-mor d (refuses-it m e) i n w = impossible (cc)
+  completed-mor d (takes-it t j m e) i n w = impossible (cc)
+  completed-mor d (completes-it t j m e) i n w = t
 
 -- ---- two histories that say the same of every key
 abbrev Same : Log Key → Log Key → Type 0
@@ -353,13 +401,43 @@ module _ (c : Collector) (area : List ℕ) (P : Passes c) (z : length area ≡ 6
         judged : begun keys (g .key) log ≡ true → itemsOf (part (room * i) n (done .box .area)) ≡ itemsOf (joined (since keys (g .key) log))
         judged bg = ap itemsOf (ap (part (room * i) n) (sym area-is) ∙ whole-message bg .octets)
 
+  segment-by : (kind : ℕ) → Between 4 5 kind → (report : List ℕ) (o : Out) → ended place read ≡ some o → (y : Option (Segment Key)) → segmentAt o ≡ y
+      → report ≡ rules keys bacnet .act o (B .s) (B .a) .0 → kindIn report ≡ kind
+      → OfSegment c front x (end .reports) (end .area) report (eqb kind 4)
+  segment-by kind row report o here none is e k =
+      let plain : rules keys bacnet .act o (B .s) (B .a) .0 ≡ plainAt o = rw is in
+      absurd (out-kind kind row o (subst (λ (r : List ℕ). kindIn r ≡ kind) (e ∙ plain) k))
+  segment-by kind row report o here (some g) is e k = by (told o g here is)
+    where
+      eq : report ≡ line o g here is
+      eq = e ∙ spoken o g here is
+
+      k′ : kindIn (line o g here is) ≡ kind
+      k′ = subst (λ (r : List ℕ). kindIn r ≡ kind) eq k
+
+      ends-so : segmentEnding (ended place read) ≡ some g
+      ends-so = ap segmentEnding here ∙ is
+
+      mors : ByMor g (done o g here is)
+      mors = by-mor g (boxed (B .s) (B .a))
+
+      is-four : (n : ℕ) → kindIn (line o g here is) ≡ n → eqb n 4 ≡ eqb kind 4
+      is-four n d = ap (λ (n : ℕ). eqb n 4) (sym d ∙ k′)
+
+      by : Told (g .key) (done o g here is .answer) (done o g here is .box .area) (line o g here is)
+          → OfSegment c front x (end .reports) (end .area) report (eqb kind 4)
+      by (not-taken n w b d q) = absurd (omega (arith, d, k′, row .1))
+      by (more i n w d y) = (g, ends-so, ap keyIn eq ∙ y, taken-mor g (done o g here is) mors i n w ∙ is-four 4 d)
+      by (faulty i n w d b f) = absurd (omega (arith, d, k′, row .1))
+      by (fine i n w d s l y f) = (g, ends-so, ap keyIn eq ∙ y, completed-mor g (done o g here is) mors i n w ∙ is-four 5 d)
+
   complete-by : (report : List ℕ) (o : Out) → ended place read ≡ some o → (y : Option (Segment Key)) → segmentAt o ≡ y
       → report ≡ rules keys bacnet .act o (B .s) (B .a) .0
       → reportAt place (end .reports) ≡ some report → kindIn report ≡ 5
       → Whole c front x (end .reports) (end .area) report
   complete-by report o here none is e so k =
       let plain : rules keys bacnet .act o (B .s) (B .a) .0 ≡ plainAt o = rw is in
-      absurd (out-kind o (subst (λ (r : List ℕ). kindIn r ≡ 5) (e ∙ plain) k))
+      absurd (out-kind 5 (omega arith, omega arith) o (subst (λ (r : List ℕ). kindIn r ≡ 5) (e ∙ plain) k))
   complete-by report o here (some g) is e so k = by (told o g here is)
     where
       eq : report ≡ line o g here is
@@ -374,7 +452,7 @@ module _ (c : Collector) (area : List ℕ) (P : Passes c) (z : length area ≡ 6
       by : Told (g .key) (done o g here is .answer) (done o g here is .box .area) (line o g here is)
           → Whole c front x (end .reports) (end .area) report
       by (not-taken n w b d q) = absurd (omega (arith, d, k′))
-      by (more i n w d) = absurd (omega (arith, d, k′))
+      by (more i n w d y) = absurd (omega (arith, d, k′))
       by (faulty i n w d b f) = absurd (omega (arith, d, k′))
       by (fine i n w d s l y f) =
           rw (eq, y, s, l) (λ bg.
@@ -401,7 +479,7 @@ module _ (c : Collector) (area : List ℕ) (P : Passes c) (z : length area ≡ 6
           let t : tagNumber n ≡ true = subst (λ (m : ℕ). tagNumber m ≡ true) (ap numberIn eq ∙ q) tag in
           let u : tagNumber n ≡ false = rw (le-leb 30 n (omega (arith, b .0)), lt-leb n 39 (omega (arith, b .0))) in
           impossible (cc)
-      by (more i n w d) = absurd (omega (arith, d, k′))
+      by (more i n w d y) = absurd (omega (arith, d, k′))
       by (fine i n w d s l y f) = absurd (omega (arith, d, k′))
       by (faulty i n w d b f) = λ bg. (
         i,
@@ -414,6 +492,12 @@ module _ (c : Collector) (area : List ℕ) (P : Passes c) (z : length area ≡ 6
   as-reported : AsReported c front x (end .reports) (end .area)
   as-reported =
       record {
+        with-mor = λ report so k.
+            let w = reported report so in
+            segment-by 4 (omega arith, omega arith) report (w .0) (w .1) (segmentAt (w .0)) refl (w .2) k;
+        without-mor = λ report so k.
+            let w = reported report so in
+            segment-by 5 (omega arith, omega arith) report (w .0) (w .1) (segmentAt (w .0)) refl (w .2) k;
         complete = λ report so k. let w = reported report so in complete-by report (w .0) (w .1) (segmentAt (w .0)) refl (w .2) so k;
         bad-tags = λ report so k tag g is bg.
             let w = reported report so in

@@ -15,14 +15,12 @@ use Rattle.rebuild.specs.Calls as Rebuild
 use Rattle.rebuild.specs.declared.Key.{Key}
 use Rattle.rebuild.proofs.Page.{key-laws}
 use Rattle.rebuild.proofs.Giving.{gives-by, taking-on, step-one}
-use Rattle.demands.specs.Words.{BrokenSlots}
-use Rattle.demands.specs.Words.BrokenSlots.{one-key}
-use Rattle.demands.specs.SegmentRows.{SegmentRows, TakeRows, SegmentsWorked}
+use Rattle.demands.specs.SegmentRows.{OneSlotEach, SegmentRows, TakeRows, SegmentsWorked, SegmentsInOrder}
 
-apart-of : (s : List (Slot Key)) → (BrokenSlots s → ⊥) → Apart keys s
+apart-of : (s : List (Slot Key)) → OneSlotEach s → Apart keys s
 apart-of s ok i j li lj u v k =
-    by-test (ltb i j) (λ t. absurd (ok (one-key i j (ltb-true i j t) lj u v k)))
-    (λ t. by-test (ltb j i) (λ d. absurd (ok (one-key j i (ltb-true j i d) li v u (sym k)))) (λ d. omega (arith, ltb-false i j t, ltb-false j i d)))
+    by-test (ltb i j) (λ t. absurd (ok i j (ltb-true i j t) lj u v k))
+    (λ t. by-test (ltb j i) (λ d. absurd (ok j i (ltb-true j i d) li v u (sym k))) (λ d. omega (arith, ltb-false i j t, ltb-false j i d)))
 
 pub segment-rows : SegmentRows
 segment-rows g b ok = by-the-table keys key-laws g b (apart-of (b .slots) ok)
@@ -36,3 +34,7 @@ take-rows t g o area r later h z ok w =
 pub segments-worked : SegmentsWorked
 unfolding rebuild startsAt nextNumber sameKey
 segments-worked area = refl
+
+pub segments-in-order : SegmentsInOrder
+unfolding rebuild startsAt nextNumber sameKey
+segments-in-order area = refl

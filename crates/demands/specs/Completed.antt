@@ -2,7 +2,7 @@
 -- accepted segments since its latest segment 0, joined in number order."
 use Prim.Native.Nat.{ℕ, _+_, _/_, _<_}
 use mathlib.Core.Path.{_≡_}
-use mathlib.Core.Bool.{Bool, true}
+use mathlib.Core.Bool.{Bool, true, false}
 use mathlib.Core.List.{List, [], _∷_, _++_}
 use mathlib.Core.Option.{Option, none, some}
 use lib.Dec.{eqb, leb}
@@ -112,7 +112,14 @@ module _ (c : Collector) (front : Run) (x : Event) where
         begun keys k log ≡ true
         → (i : ℕ) × (n : ℕ) × (i < 4) × Rebuilt keys k log area i n × (itemsOf (joined (since keys k log)) ≡ bad (numberIn report))
 
+    -- Of a report of kind 4 or 5: a segment ends at its place, its key is the one that the report names, and it has MOR or not.
+    abbrev pub OfSegment : List ℕ → Bool → Type 0
+    OfSegment report mor =
+        (g : Segment Key) × (segmentEnding (ended lastPlace (readFrom (c .receiver) (wire upTo))) ≡ some g) × (keyIn report ≡ g .key) × (g .mor ≡ mor)
+
     pub record AsReported : Type 0 where
+      pub with-mor : (report : List ℕ) → reportAt lastPlace reports ≡ some report → kindIn report ≡ 4 → OfSegment report true
+      pub without-mor : (report : List ℕ) → reportAt lastPlace reports ≡ some report → kindIn report ≡ 5 → OfSegment report false
       pub complete : (report : List ℕ) → reportAt lastPlace reports ≡ some report → kindIn report ≡ 5 → Whole report
       pub bad-tags : (report : List ℕ) → reportAt lastPlace reports ≡ some report → kindIn report ≡ 6 → tagNumber (numberIn report) ≡ true
           → (g : Segment Key) → segmentEnding (ended lastPlace (readFrom (c .receiver) (wire upTo))) ≡ some g → WholeButTags report g
@@ -132,10 +139,10 @@ abbrev pub CanBeLinked : Type 0
 CanBeLinked = (state : List ℕ) (c : Collector) (area : List ℕ) → Loads state c → Passes c → length area ≡ 65536 → (run : Run)
     → (h : Heard) × Linked (length (heldOf (c .receiver))) state area run h
 
--- ---- One run, worked, in which it is not empty: three frames on a fresh collector. The first opens slot 0 for another key; the other two are a message of two
+-- ---- One run, worked, in which it is not empty: three frames on a fresh collector. The first opens slot 0 for a key that differs in the PDU type alone; the other two are a message of two
 -- segments, of 4 and 3 octets, which goes to slot 1.
 abbrev pub otherFrame : List ℕ
-otherFrame = 0x55 ∷ 0xFF ∷ 0x05 ∷ 0x21 ∷ 0x44 ∷ 0x00 ∷ 0x09 ∷ 0xF3 ∷ 0x01 ∷ 0x04 ∷ 0x0C ∷ 0x05 ∷ 0x58 ∷ 0x00 ∷ 0x11 ∷ 0x0F ∷ 0x77 ∷ 0x22 ∷ 0x3B ∷ []
+otherFrame = 0x55 ∷ 0xFF ∷ 0x05 ∷ 0x21 ∷ 0x43 ∷ 0x00 ∷ 0x09 ∷ 0x3E ∷ 0x01 ∷ 0x04 ∷ 0x0C ∷ 0x05 ∷ 0x57 ∷ 0x00 ∷ 0x11 ∷ 0x0F ∷ 0x77 ∷ 0xDE ∷ 0x51 ∷ []
 
 abbrev pub firstFrame : List ℕ
 firstFrame = 0x55 ∷ 0xFF ∷ 0x06 ∷ 0x21 ∷ 0x43 ∷ 0x00 ∷ 0x0B ∷ 0x48 ∷ 0x01 ∷ 0x00 ∷ 0x3C ∷ 0x57 ∷ 0x00 ∷ 0x10 ∷ 0x0E ∷ 0x3E ∷ 0x44 ∷ 0x42 ∷ 0x39 ∷ 0x7B ∷ 0xCD ∷ []
@@ -148,7 +155,7 @@ abbrev pub workedFront : Run
 workedFront = octs (otherFrame ++ (firstFrame ++ secondFrame))
 
 abbrev pub otherReport : List ℕ
-otherReport = 0x04 ∷ 0x00 ∷ 0x05 ∷ 0x21 ∷ 0x44 ∷ 0x0C ∷ 0x58 ∷ 0x00 ∷ 0x00 ∷ 0x00 ∷ 0x00 ∷ 0x01 ∷ 0x0F ∷ 0 ∷ 0 ∷ 0 ∷ []
+otherReport = 0x04 ∷ 0x00 ∷ 0x05 ∷ 0x21 ∷ 0x43 ∷ 0x0C ∷ 0x57 ∷ 0x00 ∷ 0x00 ∷ 0x00 ∷ 0x00 ∷ 0x01 ∷ 0x0F ∷ 0 ∷ 0 ∷ 0 ∷ []
 
 abbrev pub firstReport : List ℕ
 firstReport = 0x04 ∷ 0x00 ∷ 0x06 ∷ 0x21 ∷ 0x43 ∷ 0x3C ∷ 0x57 ∷ 0x01 ∷ 0x00 ∷ 0x00 ∷ 0x00 ∷ 0x04 ∷ 0x0E ∷ 0 ∷ 0 ∷ 0 ∷ []

@@ -1,12 +1,12 @@
 -- DEMAND 1, the numbers of segments: "Bad input gets the refusal number that document 01 fixes". Each of 51, 52, 53, 55, 54 and 50 exactly when the table says
 -- so of the slots that are open.
-use Prim.Native.Nat.{ℕ}
+use Prim.Native.Nat.{ℕ, _<_}
 use mathlib.Core.Path.{_≡_}
 use mathlib.Core.Logic.{_↔_}
 use mathlib.Core.Bool.{Bool, true, false}
 use mathlib.Core.List.{List, [], _∷_}
 use lib.ListN.{length, replicate}
-use Rattle.messages.specs.Slots.{Segment, Slot, Box, boxed, empty}
+use Rattle.messages.specs.Slots.{Segment, Slot, Box, boxed, empty, slotAt}
 use Rattle.messages.specs.Rows.{Answer, rebuild}
 use Rattle.messages.specs.Rows.Answer.{refused, taken, completed}
 use Rattle.messages.specs.Table.{Answers}
@@ -16,17 +16,20 @@ use Rattle.rebuild.specs.declared.Key.{Key}
 use Rattle.rebuild.specs.declared.Slots.{Slots}
 use Rattle.rebuild.specs.declared.Segment.{Segment as Head}
 use Rattle.rebuild.specs.declared.Taken.{Taken}
-use Rattle.demands.specs.Words.{BrokenSlots}
 
--- "No. | Given exactly when", "by row order", and "A segment without MOR completes": w is the answer to a segment exactly when the rows' words give it, from
--- slots that 59 does not name. `Answers` (messages/Table) has each row's words
+-- 59 names "two open slots of one key": there are none. What a slot holds may be over 16,384.
+abbrev pub OneSlotEach : List (Slot Key) → Type 0
+OneSlotEach s = (i j : ℕ) → i < j → j < length s → slotAt keys s i .used ≡ true → slotAt keys s j .used ≡ true → slotAt keys s i .key ≡ slotAt keys s j .key → ⊥
+
+-- "No. | Given exactly when", "by row order", and "A segment without MOR completes": w is the answer to a segment exactly when the rows' words give it, where
+-- no two open slots have one key. `Answers` (messages/Table) has each row's words
 abbrev pub SegmentRows : Type 0
-SegmentRows = (g : Segment Key) (b : Box Key) → (BrokenSlots (b .slots) → ⊥) → (w : Answer) → (rebuild keys g b .answer ≡ w) ↔ Answers keys g b w
+SegmentRows = (g : Segment Key) (b : Box Key) → OneSlotEach (b .slots) → (w : Answer) → (rebuild keys g b .answer ≡ w) ↔ Answers keys g b w
 
 -- the same of the call, by its promise, in an area of 65,536 octets
 abbrev pub TakeRows : Type 0
 TakeRows = (t : Slots) (g : Head) (o area : List ℕ) (r : Taken) (later : List ℕ) → Rebuild.Gives (Rebuild.taking t g o area) r later → length area ≡ 65536
-    → (BrokenSlots (view t) → ⊥) → (w : Answer) → (r .answer ≡ Rebuild.stepOf w) ↔ Answers keys (segmentOf g o) (boxed (view t) area) w
+    → OneSlotEach (view t) → (w : Answer) → (r .answer ≡ Rebuild.stepOf w) ↔ Answers keys (segmentOf g o) (boxed (view t) area) w
 
 -- ---- worked: segments in a row over four slots, each number once
 -- the answers to segments, one after another
@@ -90,3 +93,37 @@ workedSegments =
 abbrev pub SegmentsWorked : Type 0
 SegmentsWorked = (area : List ℕ) → answersTo (boxed workedSlots area) workedSegments
     ≡ refused 51 ∷ refused 52 ∷ refused 53 ∷ taken 0 16384 ∷ refused 54 ∷ refused 55 ∷ taken 0 2 ∷ taken 1 6 ∷ taken 2 9 ∷ taken 3 7 ∷ refused 50 ∷ completed 0 5 ∷ completed 1 4 ∷ taken 0 8 ∷ []
+
+-- ---- worked: segments in which two rows' words hold, "by row order"
+-- the answers to segments, each from the same slots
+abbrev pub answersEach : Box Key → List (Segment Key) → List Answer
+answersEach b [] = []
+answersEach b (g ∷ gs) = rebuild keys g b .answer ∷ answersEach b gs
+
+-- every slot open; slot 1 awaits its last number with three octets short of full
+abbrev pub fullSlots : List (Slot Key)
+fullSlots =
+    record { used = true; key = first; next = 21; choice = 14; held = 16380 }
+    ∷ record { used = true; key = second; next = 255; choice = 18; held = 16381 }
+    ∷ record { used = true; key = fourth; next = 51; choice = 52; held = 53 }
+    ∷ record { used = true; key = sixth; next = 54; choice = 55; held = 56 }
+    ∷ []
+
+abbrev pub twoFaults : List (Segment Key)
+twoFaults =
+    segment third 255 true 26 10
+    ∷ segment first 28 true 30 1
+    ∷ segment first 255 true 14 2
+    ∷ segment first 28 true 14 20
+    ∷ segment second 255 true 57 3
+    ∷ segment first 21 true 30 43
+    ∷ segment second 255 true 18 4
+    ∷ segment third 0 true 26 16385
+    ∷ segment third 0 true 26 16384
+    ∷ []
+
+-- not open, 51, and 255 with MOR; not the next number, 52, and another choice, or 255 with MOR, or too many octets; another choice, 53, and 255 with MOR, or too
+-- many octets; 255 with MOR, 55, and too many octets; too many octets, 54, and no slot free, which alone is 50
+abbrev pub SegmentsInOrder : Type 0
+SegmentsInOrder = (area : List ℕ) → answersEach (boxed fullSlots area) twoFaults
+    ≡ refused 51 ∷ refused 52 ∷ refused 52 ∷ refused 52 ∷ refused 53 ∷ refused 53 ∷ refused 55 ∷ refused 54 ∷ refused 50 ∷ []
