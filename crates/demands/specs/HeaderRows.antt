@@ -143,8 +143,8 @@ pub record HeadersRefused : Type 0 where
   -- 20 15 0F 63; 40 19 09 01 63; 60 1C 05 63; 70 1E 02 63; 71 1E 02 63
   pub left-over : Refuses (32 ∷ 21 ∷ 15 ∷ 99 ∷ []) 24 × Refuses (64 ∷ 25 ∷ 9 ∷ 1 ∷ 99 ∷ []) 24 × Refuses (96 ∷ 28 ∷ 5 ∷ 99 ∷ []) 24
       × Refuses (112 ∷ 30 ∷ 2 ∷ 99 ∷ []) 24 × Refuses (113 ∷ 30 ∷ 2 ∷ 99 ∷ []) 24
-  -- octets left to right: a bit of the first octet, or MOR without SEG, and size 6; size 16 or 6 and window 0; a first octet's bit and window 0; window 0 or 128 and an
-  -- octet left over; a first octet's bit and an octet left over
+  -- octets left to right: a bit of the first octet, or MOR without SEG, and size 6; size 16 or 6 and window 0; a bit of the first octet and window 0;
+  -- window 0 or 128 and an octet left over; a bit of the first octet and an octet left over
   -- 01 06; 04 06; 08 10 11 05 00; 08 06 11 05 00; 44 19 09 00; 40 19 09 00 63; 40 19 09 80 63; 21 15 0F 63
   pub two-faults : Refuses (1 ∷ 6 ∷ []) 22 × Refuses (4 ∷ 6 ∷ []) 22 × Refuses (8 ∷ 16 ∷ 17 ∷ 5 ∷ 0 ∷ []) 22 × Refuses (8 ∷ 6 ∷ 17 ∷ 5 ∷ 0 ∷ []) 23
       × Refuses (68 ∷ 25 ∷ 9 ∷ 0 ∷ []) 22 × Refuses (64 ∷ 25 ∷ 9 ∷ 0 ∷ 99 ∷ []) 23 × Refuses (64 ∷ 25 ∷ 9 ∷ 128 ∷ 99 ∷ []) 23

@@ -236,13 +236,14 @@ pub record NetworkRefused : Type 0 where
   pub version : Refuses (0 ∷ []) 11 × Refuses (2 ∷ 80 ∷ []) 11 × Refuses (1 ∷ 64 ∷ []) 12 × Refuses (1 ∷ 16 ∷ []) 12 × Refuses (1 ∷ 80 ∷ []) 12
       × Passes (1 ∷ 15 ∷ 255 ∷ 254 ∷ 1 ∷ 91 ∷ []) × Passes (1 ∷ 160 ∷ 255 ∷ 255 ∷ 0 ∷ 9 ∷ 127 ∷ [])
   -- "a priority above 3 is 12", before the parts
-  pub priority : faultOf (headed false false 3 0 8 0 8) ≡ 0 × faultOf (headed false false 4 0 8 0 8) ≡ 12 × faultOf (headed true true 4 0 8 0 8) ≡ 12
-  -- octets left to right: bit 6 and DNET 0; DNET 0 and DLEN 8; SNET 65535 and SLEN 0; DLEN 8 and SNET 0 behind it; a good destination, then SNET 0 or SLEN 0
+  pub priority : (faultOf (headed false false 3 0 8 0 8) ≡ 0) × (faultOf (headed false false 4 0 8 0 8) ≡ 12) × (faultOf (headed true true 4 0 8 0 8) ≡ 12)
+  -- octets left to right: bit 6 and DNET 0; DNET 0 and DLEN 8; SNET 65535 and SLEN 0; DLEN 8 and SNET 0 behind it; behind a good destination, SNET 0 and
+  -- SLEN 0, and SLEN 0 alone
   -- 01 60 00 00; 01 20 00 00 08; 01 08 FF FF 00; 01 28 00 01 08 00 00 00; 01 28 00 01 00 00 00 00; 01 28 00 01 00 00 01 00
   pub two-faults : Refuses (1 ∷ 96 ∷ 0 ∷ 0 ∷ []) 12 × Refuses (1 ∷ 32 ∷ 0 ∷ 0 ∷ 8 ∷ []) 14 × Refuses (1 ∷ 8 ∷ 255 ∷ 255 ∷ 0 ∷ []) 14
       × Refuses (1 ∷ 40 ∷ 0 ∷ 1 ∷ 8 ∷ 0 ∷ 0 ∷ 0 ∷ []) 13 × Refuses (1 ∷ 40 ∷ 0 ∷ 1 ∷ 0 ∷ 0 ∷ 0 ∷ 0 ∷ []) 14
-      × Refuses (1 ∷ 40 ∷ 0 ∷ 1 ∷ 0 ∷ 0 ∷ 1 ∷ 0 ∷ []) 13 × Toward 0 8 14 × From 65535 0 14 × faultOf (headed true true 3 1 8 0 1) ≡ 13
-      × faultOf (headed true true 3 1 0 0 0) ≡ 14 × faultOf (headed true true 3 1 0 1 0) ≡ 13
+      × Refuses (1 ∷ 40 ∷ 0 ∷ 1 ∷ 0 ∷ 0 ∷ 1 ∷ 0 ∷ []) 13 × Toward 0 8 14 × From 65535 0 14 × (faultOf (headed true true 3 1 8 0 1) ≡ 13)
+      × (faultOf (headed true true 3 1 0 0 0) ≡ 14) × (faultOf (headed true true 3 1 0 1 0) ≡ 13)
   -- "a missing octet when it is reached": 10, at each octet
   -- no octet; 01; 01 20; 01 20 00; 01 20 00 01; 01 20 00 01 02 51; 01 20 00 01 00; 01 08 FF; 01 80; 01 80 80; 01 80 80 01
   pub early : Refuses [] 10 × Refuses (1 ∷ []) 10 × Refuses (1 ∷ 32 ∷ []) 10 × Refuses (1 ∷ 32 ∷ 0 ∷ []) 10 × Refuses (1 ∷ 32 ∷ 0 ∷ 1 ∷ []) 10
