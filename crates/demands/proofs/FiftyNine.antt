@@ -29,7 +29,7 @@ use Rattle.collector.specs.declared.Collector.{Collector}
 use Rattle.demands.specs.Words.{SixtyThenFiftyNine, BrokenReceiver, BrokenSlots, Broken, Four}
 use Rattle.demands.specs.Words.BrokenReceiver.{header-over, data-over, no-length, long-length}
 use Rattle.demands.specs.Words.BrokenSlots.{holds-over, one-key}
-use Rattle.demands.specs.Demands.{ReceiverFeedNumbers, ReceiverSilenceNumbers, FeedNumbers, SilenceNumbers, ForgetNumbers}
+use Rattle.demands.specs.Demands.{ReportSize, ReceiverFeedNumbers, ReceiverSilenceNumbers, FeedNumbers, SilenceNumbers, ForgetNumbers}
 
 -- a test that fails exactly where a fact holds
 pub record Denies (b : Bool) (Q : Type 0) : Type 0 where
@@ -135,6 +135,9 @@ module _ {n : ℕ} (A B : Type 0) where
         fifty-nine = (λ z. apart 59 60 refl (sym z ∙ e), λ q. never (g (q .0)));
         none = (λ z. apart 0 60 refl (sym z ∙ e), λ q. never (g (q .0)));
       }
+
+pub report-size : ReportSize
+report-size = refl
 
 pub receiver-feed-numbers : ReceiverFeedNumbers
 receiver-feed-numbers m piece = numbers Unit (BrokenReceiver m) true (soundOf m) (λ e. tt) (λ u. refl) (receiver-denies m) (feed-refused m piece)

@@ -8,7 +8,7 @@ use Rattle.apdu.specs.Fault.{morFault, windowFault, segmentFault, sizeFault}
 use Rattle.apdu.proofs.LeftToRight.{left-to-right}
 use Rattle.apdu.proofs.Rows.{row-20, row-21, row-22, row-23, row-24, one-outcome}
 use Rattle.apdu.proofs.FirstFault.{fault-22, fault-23, fault-none, fault-read}
-use Rattle.demands.specs.HeaderRows.{HeaderLeftToRight, HeaderEndsEarly, HeaderHighType, HeaderZeroBitSet, HeaderSizeOrWindow, HeaderLeftOver, HeaderOneOutcome, HeaderWriterExact, HeaderWriterAsRead, Whole, HeadersWorked}
+use Rattle.demands.specs.HeaderRows.{HeaderLeftToRight, HeaderEndsEarly, HeaderHighType, HeaderZeroBitSet, HeaderSizeOrWindow, HeaderLeftOver, HeaderOneOutcome, HeaderWriterExact, HeaderWriterAsRead, Whole, HeadersWorked, HeadersRefused}
 
 pub header-left-to-right : HeaderLeftToRight
 header-left-to-right = left-to-right
@@ -55,4 +55,20 @@ headers-worked =
       reject = record { read = refl; place = refl; fine = refl; laid = refl };
       abort-srv = record { read = refl; place = refl; fine = refl; laid = refl };
       abort = record { read = refl; place = refl; fine = refl; laid = refl };
+    }
+
+pub headers-refused : HeadersRefused
+unfolding readApdu readTail readRequest readUnconfirmed readSimpleAck readComplexAck readSegmentAck readError readReject readAbort morFault windowFault segmentFault sizeFault given
+headers-refused =
+    record {
+      size = (refl, refl, refl, refl, refl, refl, refl, refl, refl);
+      request-window = (refl, refl, refl, refl, refl, refl, refl, refl);
+      complex-ack-window = (refl, refl, refl, refl, refl, refl, refl, refl);
+      segment-ack-window = (refl, refl, refl, refl, refl, refl, refl, refl);
+      no-window = (refl, refl);
+      types = (refl, refl, refl, refl, refl, refl);
+      zero-bits = (refl, refl, refl, refl, refl, refl, refl, refl, refl, refl, refl, refl, refl, refl, refl, refl, refl, refl, refl, refl, refl, refl, refl, refl, refl, refl, refl);
+      left-over = (refl, refl, refl, refl, refl);
+      two-faults = (refl, refl, refl, refl, refl, refl, refl, refl, refl, refl);
+      early = (refl, refl, refl, refl, refl, refl, refl, refl, refl, refl, refl, refl, refl, refl, refl);
     }

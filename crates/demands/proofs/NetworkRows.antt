@@ -19,7 +19,7 @@ use Rattle.npdu.proofs.Judged.{judged}
 use Rattle.npdu.proofs.Outcome.{outcome, Refusal}
 use Rattle.npdu.proofs.Rows.{row-0, row-10, row-11, row-12, row-13, row-14}
 use Rattle.demands.specs.Words.{Between}
-use Rattle.demands.specs.NetworkRows.{NetworkRow, NetworkRows, NetworkOneRow, NetworkLeftToRight, NetworkWriterRow, NetworkWriterRows, NetworkWriterReads, everyPart, everyPartOctets, ofVendor, ofVendorOctets, NetworkWorked}
+use Rattle.demands.specs.NetworkRows.{NetworkRow, NetworkRows, NetworkOneRow, NetworkLeftToRight, NetworkWriterRow, NetworkWriterRows, NetworkWriterReads, NetworkWorked, NetworkRefused}
 use Rattle.demands.proofs.Numbers.{network-writer-numbers}
 
 -- ---- the reader
@@ -75,17 +75,20 @@ pub network-writer-reads : NetworkWriterReads
 network-writer-reads = written-number
 
 -- ---- worked out
-read-out : (readNpdu everyPartOctets ≡ accepted 19 everyPart) × (readNpdu ofVendorOctets ≡ accepted 5 ofVendor)
-unfolding readNpdu afterVersion afterDest afterSource afterTail joined refusedBy tailAt messageAt vendorAt ended partIf partOf partNet partLen noPart addressOf cut accepted given
-read-out = (refl, refl)
-
-passed : (faultOf everyPart ≡ 0) × (faultOf ofVendor ≡ 0)
-unfolding faultOf sooner partFault partRules given
-passed = (refl, refl)
-
-laid-out : (encode everyPart ≡ everyPartOctets) × (encode ofVendor ≡ ofVendorOctets)
-unfolding encode controlOf bitOf partsOctets tailOctets partOctets partLaid hopOctets messageOctets messageLaid given
-laid-out = (refl, refl)
-
 pub network-worked : NetworkWorked
-network-worked = ((read-out .0, passed .0, laid-out .0), (read-out .1, passed .1, laid-out .1))
+unfolding readNpdu afterVersion afterDest afterSource afterTail joined refusedBy tailAt messageAt vendorAt ended partIf partOf partNet partLen noPart addressOf cut accepted encode controlOf bitOf partsOctets tailOctets partOctets partLaid hopOctets messageOctets messageLaid faultOf sooner partFault partRules given
+network-worked = ((refl, refl, refl), (refl, refl, refl), (refl, refl, refl), (refl, refl, refl), (refl, refl, refl))
+
+pub network-refused : NetworkRefused
+unfolding readNpdu afterVersion afterDest afterSource afterTail joined refusedBy tailAt messageAt vendorAt ended partIf partOf partNet partLen noPart addressOf cut faultOf sooner partFault partRules given
+network-refused =
+    record {
+      dlen = ((refl, refl), (refl, refl), refl, refl, refl, refl, refl);
+      slen = (refl, (refl, refl), (refl, refl), refl, refl, refl, refl, refl);
+      dnet = (refl, (refl, refl), (refl, refl), (refl, refl), refl, refl, refl);
+      snet = (refl, (refl, refl), (refl, refl), (refl, refl), refl, refl, refl, refl, refl);
+      version = (refl, refl, refl, refl, refl, (refl, refl), (refl, refl));
+      priority = (refl, refl, refl);
+      two-faults = (refl, refl, refl, refl, refl, refl, refl, refl, refl, refl, refl);
+      early = (refl, refl, refl, refl, refl, refl, refl, refl, refl, refl, refl);
+    }

@@ -1,11 +1,30 @@
--- One state, octet by octet: by computation.
+-- States, octet by octet: by computation.
 use mathlib.Core.Path.{refl}
+use Rattle.frames.specs.declared.Phase.{Phase}
+use Rattle.frames.specs.declared.Phase.the-variants.{Hunting, Preamble, Header, Data}
+use Rattle.collector.specs.Calls.{freshCollector}
+use Rattle.state.specs.Calls.{Loads}
 use Rattle.state.specs.Link.{linkOctets}
 use Rattle.state.specs.Slot.{slotOctets}
 use Rattle.state.specs.Layout.{stateOctets}
 use Rattle.state.proofs.Exact.{shaped-loads}
-use Rattle.demands.specs.StateOctets.{workedState, StateOctets}
+use Rattle.demands.specs.StateOctets.{workedIn, StateOctets}
+
+loads : (p : Phase) → Loads (stateOctets (workedIn p)) (workedIn p)
+loads p = shaped-loads (workedIn p) (record { head = refl; store = refl; four = refl })
 
 pub state-octets : StateOctets
 unfolding stateOctets linkOctets slotOctets
-state-octets = (refl, refl, refl, refl, shaped-loads workedState (record { head = refl; store = refl; four = refl }))
+state-octets =
+    record {
+      laid = refl;
+      size = refl;
+      store = refl;
+      slots = refl;
+      back = loads (Data 1029);
+      hunting = (refl, loads Hunting);
+      preamble = (refl, loads Preamble);
+      header = (refl, loads (Header 9));
+      fresh = refl;
+      fresh-back = shaped-loads freshCollector (record { head = refl; store = refl; four = refl });
+    }

@@ -94,7 +94,7 @@ use Rattle.demands.specs.Words.{One, Between, SixtyThenFiftyNine, Broken
 -- Here: each call by its name and its promise, the numbers that it gives, and what it changes.
 
 -- ---- 1a. "Every public call promises its full answer and the later contents of everything lent, refusals included; any two answers it allows are shown
--- equal." A field for each call of README's table; the answer stands with what the call leaves in the areas that it was lent.
+-- equal." A field for each call of docs/CALLS.md's table; the answer stands with what the call leaves in the areas that it was lent.
 pub record OneAnswer : Type 0 where
   pub header-step : (reg octet : ℕ) → One ℕ (λ r. r ≡ headerStep reg octet)
   pub header-run : (reg : ℕ) (s : List ℕ) → One ℕ (λ r. r ≡ headerRun reg s)
@@ -186,6 +186,10 @@ ListingRefuses = (s area later : List ℕ) (r : Tally) → Listed s area r later
     × ((k : ℕ) → counted (itemsOf s) ≡ Tally.Items k
     → (length area < 12 * k → (r ≡ Tally.Refused 61) × (later ≡ area))
     × (12 * k ≤ length area → (r ≡ Tally.Items k) × (length later ≡ length area) × (drop (12 * k) later ≡ drop (12 * k) area)))
+
+-- a report: "One record of 16 octets"
+abbrev pub ReportSize : Type 0
+ReportSize = reportSize ≡ 16
 
 -- 59 and 60 in full: "60: report area not 16 octets or message area not 65,536", "59: a state .." (Words: Broken)
 abbrev pub ReceiverFeedNumbers : Type 0

@@ -1,12 +1,15 @@
--- One state, octet by octet: "State to octets and back is .. the same state." No two fields have one value, so that none can stand at another's place.
+-- States, octet by octet: "State to octets and back is .. the same state." In the first no two fields have one value (but `used`, 1 in both open slots), so
+-- that none can stand at another's place: for that it got more octets than a store has, a state that 59 names. States are laid and read whatever they hold.
 use Prim.Native.Nat.{ℕ}
 use mathlib.Core.Path.{_≡_}
 use mathlib.Core.Bool.{true}
 use mathlib.Core.List.{List, [], _∷_, _++_}
 use lib.ListN.{length, take, drop, replicate}
-use Rattle.frames.specs.declared.Phase.the-variants.{Data}
+use Rattle.frames.specs.declared.Phase.{Phase}
+use Rattle.frames.specs.declared.Phase.the-variants.{Hunting, Preamble, Header, Data}
 use Rattle.rebuild.specs.View.{freeSlot}
 use Rattle.rebuild.specs.declared.Slot.{Slot}
+use Rattle.collector.specs.Calls.{freshCollector}
 use Rattle.collector.specs.declared.Collector.{Collector}
 use Rattle.state.specs.Layout.{stateOctets}
 use Rattle.state.specs.Calls.{Loads}
@@ -22,17 +25,21 @@ workedSlot = record { used = true; key = record { source = 20; destination = 21;
 abbrev pub otherSlot : Slot
 otherSlot = record { used = true; key = record { source = 30; destination = 31; kind = 32; invoke = 33 }; next = 34; choice = 35; held = 9253 }
 
--- in data with 258 octets got, of a frame of type 6 from 11 to 10 with 501 octets; the first and the third slot open
-abbrev pub workedState : Collector
-workedState =
+-- in a phase, of a frame of type 6 from 11 to 10 with 1,800 octets; the first and the third slot open
+abbrev pub workedIn : Phase → Collector
+workedIn phase =
     record {
-      receiver = record { link = record { phase = Data 258; head = 6 ∷ 10 ∷ 11 ∷ 1 ∷ 245 ∷ []; first = 12 }; store = workedStore };
+      receiver = record { link = record { phase = phase; head = 6 ∷ 10 ∷ 11 ∷ 7 ∷ 8 ∷ []; first = 12 }; store = workedStore };
       slots = record { slots = workedSlot ∷ freeSlot ∷ otherSlot ∷ freeSlot ∷ [] };
     }
 
+-- in data, 1,029 octets got
+abbrev pub workedState : Collector
+workedState = workedIn (Data 1029)
+
 -- octets 0 to 8: phase, octets got (2), type, destination, source, length (2), first check octet
 abbrev pub workedLink : List ℕ
-workedLink = 3 ∷ 1 ∷ 2 ∷ 6 ∷ 10 ∷ 11 ∷ 1 ∷ 245 ∷ 12 ∷ []
+workedLink = 3 ∷ 4 ∷ 5 ∷ 6 ∷ 10 ∷ 11 ∷ 7 ∷ 8 ∷ 12 ∷ []
 
 -- octets 510 to 545, nine a slot: used, MS/TP source, MS/TP destination, PDU type, invoke ID, next number, service choice, octets held (2)
 abbrev pub workedSlots : List ℕ
@@ -45,11 +52,23 @@ workedSlots =
 abbrev pub workedOctets : List ℕ
 workedOctets = workedLink ++ (workedStore ++ workedSlots)
 
--- the state is these 546 octets, store from 9 and slots from 510 on, and they are that state
-abbrev pub StateOctets : Type 0
-StateOctets =
-    (stateOctets workedState ≡ workedOctets)
-    × (length workedOctets ≡ 546)
-    × (take 501 (drop 9 workedOctets) ≡ workedStore)
-    × (drop 510 workedOctets ≡ workedSlots)
-    × Loads workedOctets workedState
+-- the state in a phase is these octets, with phase and octets got in front, and they are that state
+abbrev pub InPhase : Phase → List ℕ → Type 0
+InPhase phase front =
+    let o = front ++ ((6 ∷ 10 ∷ 11 ∷ 7 ∷ 8 ∷ 12 ∷ []) ++ (workedStore ++ workedSlots)) in
+    (stateOctets (workedIn phase) ≡ o) × Loads o (workedIn phase)
+
+pub record StateOctets : Type 0 where
+  -- the state is these 546 octets, store from 9 and slots from 510 on, and they are that state
+  pub laid : stateOctets workedState ≡ workedOctets
+  pub size : length workedOctets ≡ 546
+  pub store : take 501 (drop 9 workedOctets) ≡ workedStore
+  pub slots : drop 510 workedOctets ≡ workedSlots
+  pub back : Loads workedOctets workedState
+  -- the other phases: 0 hunting and 1 preamble, no octets got; 2 header, 9 octets got
+  pub hunting : InPhase Hunting (0 ∷ 0 ∷ 0 ∷ [])
+  pub preamble : InPhase Preamble (1 ∷ 0 ∷ 0 ∷ [])
+  pub header : InPhase (Header 9) (2 ∷ 0 ∷ 9 ∷ [])
+  -- a fresh state is 546 zeros, and they are a fresh state
+  pub fresh : stateOctets freshCollector ≡ replicate 546 0
+  pub fresh-back : Loads (replicate 546 0) freshCollector
