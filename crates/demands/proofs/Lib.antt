@@ -16,3 +16,4 @@ pub mod TagRows
 pub mod StateOctets
 pub mod Completed
 pub mod CompletedRun
+pub mod ReportsWorked

@@ -7,3 +7,4 @@ pub mod TagRows
 pub mod NetworkRows
 pub mod StateOctets
 pub mod Completed
+pub mod ReportsWorked
