@@ -19,3 +19,4 @@ pub mod CompletedRun
 pub mod Damage
 pub mod Exported
 pub mod ServicesBack
+pub mod ReportsWorked

@@ -9,3 +9,4 @@ pub mod StateOctets
 pub mod Completed
 pub mod Damage
 pub mod Exported
+pub mod ReportsWorked

@@ -100,7 +100,7 @@ abbrev pub answersEach : Box Key → List (Segment Key) → List Answer
 answersEach b [] = []
 answersEach b (g ∷ gs) = rebuild keys g b .answer ∷ answersEach b gs
 
--- every slot open; slot 1 awaits its last number with three octets short of full
+-- every slot open; slot 0 is four octets short of full, slot 1 three, and awaits its last number
 abbrev pub fullSlots : List (Slot Key)
 fullSlots =
     record { used = true; key = first; next = 21; choice = 14; held = 16380 }
