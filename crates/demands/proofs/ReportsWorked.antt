@@ -15,18 +15,23 @@ use Rattle.apdu.specs.Reading as Apdu
 use Rattle.apdu.specs.Fields.{tailEnd}
 use Rattle.tags.specs.Types.{least, most}
 use Rattle.tags.specs.Head.{headAt, numberAt, lengthAt, twoAt, fourAt, firstRule, firstContent, contentsAt, wholeAt, signBad, signedAt, contextAt, applicationAt}
+use Rattle.items.specs.Reading as Items
 use Rattle.items.specs.Reading.{more, ending, closes, step, walk, itemsOf}
+use Rattle.items.proofs.Examples.{worked}
+use Rattle.messages.specs.Slots.{part}
 use Rattle.messages.specs.Rows.{rebuild, startsAt, nextNumber}
+use Rattle.messages.specs.Rows.Answer.{completed}
 use Rattle.rebuild.specs.View.{keys, sameKey}
 use Rattle.recordings.specs.Frames.{rules}
 use Rattle.reports.specs.Layout.{reportOctets}
+use Rattle.reports.specs.Kinds.{complete}
 use Rattle.collector.specs.Heard.{partsOf}
-use Rattle.collector.specs.Frame.{npduContent, contentOf, bacnet}
+use Rattle.collector.specs.Frame.{npduContent, contentOf, byTags, answeredAt, bacnet}
 use Rattle.collector.specs.Calls.{freshCollector, slotsOf}
 use Rattle.collector.specs.Offering.{End}
 use Rattle.collector.proofs.Reached.{fresh}
 use Rattle.collector.proofs.Examples as Examples
-use Rattle.demands.specs.ReportsWorked.{WholeCase, workedCases, runOf, placed, ReportsWorked, LongReport}
+use Rattle.demands.specs.ReportsWorked.{WholeCase, workedCases, runOf, placed, ReportsWorked, LongReport, segmentFrame, SegmentReportsWorked}
 use Rattle.demands.proofs.Three.{read-by-position}
 
 pub whole-case : WholeCase
@@ -45,3 +50,24 @@ reports-worked area z e o = ap (λ (e : End). e .reports) (read-by-position fres
 pub long-report : LongReport
 unfolding contentOf reportOctets digits
 long-report = refl
+
+-- a completed message, by the octets of its slot
+abbrev told : ℕ → ℕ → Items.Out → List ℕ
+told kind n y =
+    reportOctets (byTags y (complete (record { kind = kind; destination = 0x21; source = 0x43 }) (record { first = 0x3C; invoke = 0x57; choice = 0x0E }) 2 n))
+
+by-tags : (area : List ℕ)
+    → (answeredAt (segmentFrame 0x06) (completed 2 7) area ≡ told 0x06 7 (itemsOf (part 32768 7 area)))
+    × (answeredAt (segmentFrame 0x05) (completed 2 1) area ≡ told 0x05 1 (itemsOf (part 32768 1 area)))
+unfolding contentOf npduContent given Npdu.readNpdu Npdu.afterVersion Npdu.afterDest Npdu.afterSource Npdu.afterTail Npdu.partIf Npdu.noPart Npdu.tailAt Npdu.joined Npdu.messageAt Npdu.ended Npdu.refusedBy Apdu.readApdu Apdu.readComplexAck Apdu.readTail tailEnd reportOctets partsOf
+by-tags area = (refl, refl)
+
+pub segment-reports-worked : SegmentReportsWorked
+unfolding contentOf npduContent given Npdu.readNpdu Npdu.afterVersion Npdu.afterDest Npdu.afterSource Npdu.afterTail Npdu.partIf Npdu.noPart Npdu.tailAt Npdu.joined Npdu.messageAt Npdu.ended Npdu.refusedBy Apdu.readApdu Apdu.readComplexAck Apdu.readTail tailEnd reportOctets partsOf digits
+segment-reports-worked area =
+    record {
+      held = refl;
+      whole = λ h. by-tags area .0 ∙ ap (λ (o : List ℕ). told 0x06 7 (itemsOf o)) h ∙ ap (told 0x06 7) (worked .group);
+      bad-tags = λ h. by-tags area .1 ∙ ap (λ (o : List ℕ). told 0x05 1 (itemsOf o)) h ∙ ap (told 0x05 1) (worked .left-open);
+      not-taken = refl;
+    }

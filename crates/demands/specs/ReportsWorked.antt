@@ -1,6 +1,6 @@
 -- Reports of each kind, worked: "One record of 16 octets, no header. 0: kind; 1: refusal number or 0; 2 to 4: frame type, destination, source; 5: first APDU
--- octet; 6: invoke ID; 7: slot; 8 to 11: length, high octet first; 12: service choice. All else, and what the kind or PDU lacks, is 0." Kind 5, and a slot
--- other than 0, are in `CompletedWorked`.
+-- octet; 6: invoke ID; 7: slot; 8 to 11: length, high octet first; 12: service choice. All else, and what the kind or PDU lacks, is 0." Kind 5 in a
+-- recording is in `CompletedWorked`.
 use Prim.Native.Nat.{ℕ, _+_, _-_}
 use mathlib.Core.Path.{_≡_}
 use mathlib.Core.List.{List, [], _∷_, _++_}
@@ -8,8 +8,11 @@ use lib.ListN.{length, replicate}
 use Rattle.runs.specs.Run.{Run, octs}
 use Rattle.runs.specs.Run.Event.{silence}
 use Rattle.runs.specs.Run.Order.{trunk}
+use Rattle.trunk.specs.Reading.{Out}
 use Rattle.trunk.specs.Reading.Out.{good}
-use Rattle.collector.specs.Frame.{plainAt}
+use Rattle.messages.specs.Slots.{part}
+use Rattle.messages.specs.Rows.Answer.{refused, taken, completed}
+use Rattle.collector.specs.Frame.{plainAt, answeredAt}
 use Rattle.collector.specs.Calls.{freshCollector}
 use Rattle.collector.specs.Offering.{End, Called}
 
@@ -157,3 +160,21 @@ ReportsWorked = (area : List ℕ) → length area ≡ 65536 → (e : End) → Ca
 abbrev pub LongReport : Type 0
 LongReport = plainAt (good (0x14 ∷ 0x22 ∷ 0x33 ∷ 0x01 ∷ 0x02 ∷ []) (replicate 258 0x71))
     ≡ 0x01 ∷ 0x00 ∷ 0x14 ∷ 0x22 ∷ 0x33 ∷ 0 ∷ 0 ∷ 0 ∷ 0x00 ∷ 0x00 ∷ 0x01 ∷ 0x02 ∷ 0 ∷ 0 ∷ 0 ∷ 0 ∷ []
+
+-- ---- a segment by its answer: number 1 in a frame of the given type
+abbrev pub segmentFrame : ℕ → Out
+segmentFrame kind = good (kind ∷ 0x21 ∷ 0x43 ∷ 0x00 ∷ 0x0A ∷ []) (0x01 ∷ 0x00 ∷ 0x3C ∷ 0x57 ∷ 0x01 ∷ 0x10 ∷ 0x0E ∷ 0x99 ∷ 0x9A ∷ 0x3F ∷ [])
+
+-- 4: in slot 3, 16,137 octets held so far; 5: in slot 2, seven octets with good tags in all; 6 with the tag number where a group is left open in them;
+-- 6 with the segment's
+pub record SegmentReports (area : List ℕ) : Type 0 where
+  pub held : answeredAt (segmentFrame 0x06) (taken 3 16137) area
+      ≡ 0x04 ∷ 0x00 ∷ 0x06 ∷ 0x21 ∷ 0x43 ∷ 0x3C ∷ 0x57 ∷ 0x03 ∷ 0x00 ∷ 0x00 ∷ 0x3F ∷ 0x09 ∷ 0x0E ∷ 0 ∷ 0 ∷ 0 ∷ []
+  pub whole : part 32768 7 area ≡ 0x3E ∷ 0x44 ∷ 0x42 ∷ 0x39 ∷ 0x99 ∷ 0x9A ∷ 0x3F ∷ [] → answeredAt (segmentFrame 0x06) (completed 2 7) area
+      ≡ 0x05 ∷ 0x00 ∷ 0x06 ∷ 0x21 ∷ 0x43 ∷ 0x3C ∷ 0x57 ∷ 0x02 ∷ 0x00 ∷ 0x00 ∷ 0x00 ∷ 0x07 ∷ 0x0E ∷ 0 ∷ 0 ∷ 0 ∷ []
+  pub bad-tags : part 32768 1 area ≡ 0x3E ∷ [] → answeredAt (segmentFrame 0x05) (completed 2 1) area
+      ≡ 0x06 ∷ 0x24 ∷ 0x05 ∷ 0x21 ∷ 0x43 ∷ 0 ∷ 0 ∷ 0 ∷ 0 ∷ 0 ∷ 0 ∷ 0 ∷ 0 ∷ 0 ∷ 0 ∷ 0 ∷ []
+  pub not-taken : answeredAt (segmentFrame 0x05) (refused 52) area ≡ 0x06 ∷ 0x34 ∷ 0x05 ∷ 0x21 ∷ 0x43 ∷ 0 ∷ 0 ∷ 0 ∷ 0 ∷ 0 ∷ 0 ∷ 0 ∷ 0 ∷ 0 ∷ 0 ∷ 0 ∷ []
+
+abbrev pub SegmentReportsWorked : Type 0
+SegmentReportsWorked = (area : List ℕ) → SegmentReports area
