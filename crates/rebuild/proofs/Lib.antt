@@ -3,3 +3,4 @@ pub mod Seen
 pub mod Giving
 pub mod Numbers
 pub mod Page
+pub mod Ways

@@ -1,50 +1,25 @@
 use borrow.Author.Needs.{needs}
-use native.Mathlib.Omega.{arith}
-use Prim.Native.Nat.{_≤_, _-_}
-use mathlib.Core.Path.{_≡_, refl, sym, _∙_}
-use lib.ListN.{drop, length}
+use Prim.Native.Nat.{_-_}
+use mathlib.Core.Path.{_≡_}
+use lib.ListN.{length}
 use Rattle.messages.specs.Slots as Messages
-use Rattle.rebuild.specs.View.{keys, view, found}
-use Rattle.rebuild.proofs.Lookup.{turn, meets, ends}
-use Rattle.rebuild.proofs.Seen.{at-view, length-of-map, length-view}
+use Rattle.rebuild.specs.View.{keys}
+use Rattle.rebuild.proofs.Seen.{length-of-map}
+use Rattle.rebuild.proofs.Ways.{Looking, looks-first, looks-past, looks-here, looks-on}
 use Rattle.rebuild.proofs.search.open_slot.Statement.{statement}
 use Rattle.rebuild.proofs.search.open_slot.Tie as tie
 
 abbrev Inv-loop : tie.InvT-loop
-Inv-loop k start t s₀ s =
-    (s ≤ 4) × (found start (Messages.lowest (Messages.openTo keys k) (drop start (view t))) ≡ found s (Messages.lowest (Messages.openTo keys k) (drop s (view t))))
+Inv-loop k start t s₀ s = Looking (Messages.openTo keys k) t start s
 
 abbrev μ-loop : tie.MeasureT-loop
 μ-loop k start t s₀ s = 4 - s
 
-four : (st : tie.Start Inv-loop μ-loop) → length (view (st .args .t1)) ≡ 4
-four st = length-view (st .args .t1) 4 (search (length-of-map, st .good))
+four : (st : tie.Start Inv-loop μ-loop) → length (st .args .t1 .slots) ≡ 4
+four st = search (length-of-map, st .good)
 
 loop-holds : tie.Need-loop-holds Inv-loop μ-loop
-loop-holds c = (omega arith, refl)
-
-loop-again : tie.Need-loop-again Inv-loop μ-loop
-loop-again c =
-    let st = c .before .before .before .before .before in
-    let l = c .before .before .before .before .loop in
-    let f = Messages.openTo keys (st .args .k) in
-    let k = four st in
-    (omega arith, l .inv .1 ∙ turn f (Messages.empty keys) (view (st .args .t1)) (l .s) (omega arith) (at-view f (st .args .t1) (l .s) ∙ sym (c .before .open-to .ensures) ∙ c .if2 .left))
-
-returns : tie.Need-returns Inv-loop μ-loop
-returns c =
-    let st = c .before .before in
-    let l = c .before .loop in
-    let k = four st in
-    sym (l .inv .1 ∙ ends (Messages.openTo keys (st .args .k)) (Messages.empty keys) (view (st .args .t1)) (l .s) (omega arith))
-
-returns-2 : tie.Need-returns-2 Inv-loop μ-loop
-returns-2 c =
-    let st = c .before .before .before .before .before in
-    let l = c .before .before .before .before .loop in
-    let f = Messages.openTo keys (st .args .k) in
-    let k = four st in
-    sym (l .inv .1 ∙ meets f (Messages.empty keys) (view (st .args .t1)) (l .s) (omega arith) (at-view f (st .args .t1) (l .s) ∙ sym (c .before .open-to .ensures) ∙ c .if2 .taken))
+loop-holds c = let st : tie.Start Inv-loop μ-loop = search needs in looks-first _ _ _ (four st)
 
 pub open-slot-spec : {M : Type 1} → statement M
 open-slot-spec =
@@ -58,6 +33,6 @@ open-slot-spec =
     (λ c κs. search needs)
     (λ c. search needs)
     (λ c. search needs)
-    loop-again
-    returns
-    returns-2)
+    (λ c. search (needs, looks-on))
+    (λ c. search (needs, looks-past))
+    (λ c. search (needs, looks-here)))

@@ -1,0 +1,254 @@
+-- The ways through the functions of rebuilding: what each promises, from what the calls in it promise and the tests that it took.
+use mathlib.Core.Path.{_≡_, refl, sym, ap, _∙_}
+use mathlib.Core.Bool.{Bool, true, false, not}
+use mathlib.Core.List.{List}
+use mathlib.Core.Option.{Option, none, some}
+use Prim.Native.Nat.{ℕ, _+_, _*_, _≤_, _<_}
+use native.Mathlib.Omega.{arith}
+use lib.Dec.{eqb}
+use lib.ListN.{length, getD, set, drop}
+use borrow.Author.Tests.{not-true, not-false, lt-ltb, le-ltb, eq-eqb, ne-eqb}
+use Rattle.octets.specs.Choice.{both}
+use Rattle.octets.specs.Splice.{splice}
+use Rattle.messages.specs.Slots as Messages
+use Rattle.messages.specs.Rows as Rules
+use Rattle.messages.specs.Sound as Sound
+use Rattle.messages.proofs.Starts.{starts-zero}
+use Rattle.messages.proofs.Rows.{rebuild-open, rebuild-new, new-51, new-start, open-restart, open-52, open-53, open-on, fitted-55, fitted-54, fitted-on}
+use Rattle.messages.proofs.Sound.{sound-over, sound-strange, sound-twice, sound-on, sound-end}
+use Rattle.rebuild.specs.View.{keys, sameKey, freeSlot, seen, view, segmentOf, found}
+use Rattle.rebuild.specs.Calls.{Gives, taking, Forgets}
+use Rattle.rebuild.specs.declared.Key.{Key}
+use Rattle.rebuild.specs.declared.Slot.{Slot}
+use Rattle.rebuild.specs.declared.Slots.{Slots}
+use Rattle.rebuild.specs.declared.Segment.{Segment}
+use Rattle.rebuild.specs.declared.Step.the-variants.{Refused, Held, Complete}
+use Rattle.rebuild.specs.declared.Taken.{Taken}
+use Rattle.rebuild.specs.declared.Forgot.{Forgot}
+use Rattle.rebuild.specs.declared.search.Found.{Found}
+use Rattle.rebuild.specs.declared.search.Found.the-variants.{At, Nothing}
+use Rattle.rebuild.proofs.Lookup.{turn, meets, ends, found-at, found-none}
+use Rattle.rebuild.proofs.Seen.{seen-at, at-view, free-at, length-view, past-last, found-below, twice-free, twice-found, twice-alone}
+use Rattle.rebuild.proofs.Giving.{gives-by, gives-kept, gives-lost, gives-more, gives-last, taking-60, taking-on, forgets, forgets-not}
+use Rattle.rebuild.proofs.Numbers.{zero-fits}
+
+-- what a call answered is what it was asked for
+pub answered : (b v w : Bool) → b ≡ v → b ≡ w → v ≡ w
+answered b v w e q = sym e ∙ q
+
+-- ---- a slot that is free is open to no key; one that is used, where the keys are the same
+pub closed-to : (u v : Bool) → not u ≡ true → false ≡ both u v
+closed-to u v n = sym (ap (λ (x : Bool). both x v) (not-true u n))
+
+pub opened-to : (u v b : Bool) → not u ≡ false → b ≡ v → b ≡ both u v
+opened-to u v b n e = e ∙ sym (ap (λ (x : Bool). both x v) (not-false u n))
+
+-- ---- a search of the slots from start on, at slot s: what it finds from here on it finds
+pub record Looking (f : Messages.Slot Key → Bool) (t : Slots) (start s : ℕ) : Type 0 where
+  pub four : length (t .slots) ≡ 4
+  pub same : found start (Messages.lowest f (drop start (view t))) ≡ found s (Messages.lowest f (drop s (view t)))
+
+module _ (f : Messages.Slot Key → Bool) (t : Slots) (start : ℕ) where
+  pub looks-first : length (t .slots) ≡ 4 → Looking f t start start
+  looks-first k = record { four = k; same = refl }
+
+  module _ (s : ℕ) (w : Looking f t start s) where
+    pub looks-past : 4 ≤ s → Nothing ≡ found start (Messages.lowest f (drop start (view t)))
+    looks-past h = let k = length-view t 4 (w .four) in sym (w .same ∙ ends f (Messages.empty keys) (view t) s (omega arith))
+
+    -- a test of the slot as the rules see it
+    finds : s < 4 → f (Messages.slotAt keys (view t) s) ≡ true → At s ≡ found start (Messages.lowest f (drop start (view t)))
+    finds h e = let k = length-view t 4 (w .four) in sym (w .same ∙ meets f (Messages.empty keys) (view t) s (omega arith) e)
+
+    passes-by : s < 4 → f (Messages.slotAt keys (view t) s) ≡ false → Looking f t start (s + 1)
+    passes-by h e = let k = length-view t 4 (w .four) in record { four = w .four; same = w .same ∙ turn f (Messages.empty keys) (view t) s (omega arith) e }
+
+    module _ (h : s < 4) (b : Bool) (e : b ≡ f (seen (getD (t .slots) s freeSlot))) where
+      pub looks-here : b ≡ true → At s ≡ found start (Messages.lowest f (drop start (view t)))
+      looks-here q = finds h (at-view f t s ∙ sym e ∙ q)
+
+      pub looks-on : b ≡ false → Looking f t start (s + 1)
+      looks-on q = passes-by h (at-view f t s ∙ sym e ∙ q)
+
+-- the lowest free slot
+module _ (t : Slots) (s : ℕ) (w : Looking (Messages.isFree keys) t 0 s) where
+  pub free-past : 4 ≤ s → Nothing ≡ found 0 (Messages.lowest (Messages.isFree keys) (view t))
+  free-past h = looks-past (Messages.isFree keys) t 0 s w h
+
+  module _ (h : s < 4) where
+    pub free-here : not (getD (t .slots) s freeSlot .used) ≡ true → At s ≡ found 0 (Messages.lowest (Messages.isFree keys) (view t))
+    free-here n = finds (Messages.isFree keys) t 0 s w h (free-at t s false (not-true _ n))
+
+    pub free-on : not (getD (t .slots) s freeSlot .used) ≡ false → Looking (Messages.isFree keys) t 0 (s + 1)
+    free-on n = passes-by (Messages.isFree keys) t 0 s w h (free-at t s true (not-false _ n))
+
+-- what a search of the four slots finds is one of them
+pub found-here : (p : Messages.Slot Key → Bool) (t : Slots) (f : Found) → f ≡ found 0 (Messages.lowest p (view t)) → (s : ℕ) → f ≡ At s → length (t .slots) ≡ 4 → s < 4
+found-here p t f e s q k = found-below p t s 4 k (found-at _ s (sym e ∙ q))
+
+-- ---- whether slot s is open and a later open slot has its key, f being what the search from start on found
+module _ (t : Slots) (s : ℕ) (rest : List (Messages.Slot Key)) where
+  pub once-free : not (getD (t .slots) s freeSlot .used) ≡ true → false ≡ Sound.twice keys (Messages.slotAt keys (view t) s) rest
+  once-free n = sym (twice-free t s rest (not-true _ n))
+
+  module _ (start : ℕ) (n : not (getD (t .slots) s freeSlot .used) ≡ false) (f : Found)
+      (e : f ≡ found start (Messages.lowest (Messages.openTo keys (getD (t .slots) s freeSlot .key)) rest)) where
+    pub twice-there : (j : ℕ) → f ≡ At j → true ≡ Sound.twice keys (Messages.slotAt keys (view t) s) rest
+    twice-there j q = sym (twice-found t s start rest (not-false _ n) j (sym e ∙ q))
+
+    pub once-there : f ≡ Nothing → false ≡ Sound.twice keys (Messages.slotAt keys (view t) s) rest
+    once-there q = sym (twice-alone t s start rest (not-false _ n) (sym e ∙ q))
+
+-- ---- 59's test, at slot s: the slots below are sound
+pub record Passing (t : Slots) (s : ℕ) : Type 0 where
+  pub four : length (t .slots) ≡ 4
+  pub same : Sound.sound keys (view t) ≡ Sound.sound keys (drop s (view t))
+
+pub passing-first : (t : Slots) → length (t .slots) ≡ 4 → Passing t 0
+passing-first t k = record { four = k; same = refl }
+
+module _ (t : Slots) (s : ℕ) (w : Passing t s) where
+  -- there are four, so the rest is the test
+  tested : Sound.passes keys 4 (view t) ≡ Sound.sound keys (drop s (view t))
+  tested = ap (λ (x : Bool). both x (Sound.sound keys (view t))) (eq-eqb (length (view t)) 4 (length-view t 4 (w .four))) ∙ w .same
+
+  pub sound-all : 4 ≤ s → true ≡ Sound.passes keys 4 (view t)
+  sound-all h = let k = length-view t 4 (w .four) in sym (tested ∙ sound-end keys (view t) s (omega arith))
+
+  module _ (h : s < 4) where
+    within : s < length (view t)
+    within = let k = length-view t 4 (w .four) in omega arith
+
+    held-here : Messages.slotAt keys (view t) s .held ≡ getD (t .slots) s freeSlot .held
+    held-here = at-view (λ (x : Messages.Slot Key). x .held) t s
+
+    pub unsound-held : 16384 < getD (t .slots) s freeSlot .held → false ≡ Sound.passes keys 4 (view t)
+    unsound-held o = sym (tested ∙ sound-over keys (view t) s within (rw held-here o))
+
+    module _ (o : getD (t .slots) s freeSlot .held ≤ 16384) (b : Bool) (e : b ≡ Sound.strange keys (seen (getD (t .slots) s freeSlot))) where
+      strange-here : (v : Bool) → b ≡ v → Sound.strange keys (Messages.slotAt keys (view t) s) ≡ v
+      strange-here v q = at-view (Sound.strange keys) t s ∙ sym e ∙ q
+
+      pub unsound-key : b ≡ true → false ≡ Sound.passes keys 4 (view t)
+      unsound-key q = sym (tested ∙ sound-strange keys (view t) s within (rw held-here o) (strange-here true q))
+
+      module _ (q : b ≡ false) (d : Bool) (f : d ≡ Sound.twice keys (Messages.slotAt keys (view t) s) (drop (s + 1) (view t))) where
+        pub unsound-twice : d ≡ true → false ≡ Sound.passes keys 4 (view t)
+        unsound-twice p = sym (tested ∙ sound-twice keys (view t) s within (rw held-here o) (strange-here false q) (sym f ∙ p))
+
+        pub passing-on : d ≡ false → Passing t (s + 1)
+        passing-on p = record { four = w .four; same = w .same ∙ sound-on keys (view t) s within (rw held-here o) (strange-here false q) (sym f ∙ p) }
+
+-- ---- forgetting slot s, which is read and set at its place
+pub forget-past : (t : Slots) (s : ℕ) → length (t .slots) ≡ 4 → 3 < s → Forgets t s (record { number = 56; slots = t })
+forget-past t s k h = forgets-not t s (past-last t s (omega arith))
+
+module _ (t : Slots) (s at : ℕ) (e : at ≡ s) where
+  pub forget-free : getD (t .slots) at freeSlot .used ≡ false → Forgets t s (record { number = 56; slots = t })
+  forget-free q = forgets-not t s (at-view (λ (x : Messages.Slot Key). x .used) t s ∙ rw e at q)
+
+  pub forget-open : (u : Slots) → getD (t .slots) at freeSlot .used ≡ true → u .slots ≡ set (t .slots) at freeSlot → Forgets t s (record { number = 0; slots = u })
+  forget-open u q d = forgets t s u (at-view (λ (x : Messages.Slot Key). x .used) t s ∙ rw e at q) (rw e at d)
+
+-- ---- a segment that starts a message is not 55's
+pub starts-unspent : (number : ℕ) (mor b : Bool) → b ≡ Rules.startsAt number false 0 → not b ≡ false → Rules.spent number mor ≡ false
+starts-unspent number mor b e n = zero-fits number mor (starts-zero number false 0 (sym e ∙ not-false b n))
+
+-- ---- a segment g with the octets o, at the slots t and the area
+module _ (t : Slots) (g : Segment) (o area : List ℕ) where
+  abbrev seg : Messages.Segment Key
+  seg = segmentOf g o
+
+  abbrev box : Messages.Box Key
+  box = Messages.boxed (view t) area
+
+  -- laid in slot s behind n octets; k is the number after its own
+  module _ (s n : ℕ) (u : Slots) (later : List ℕ) (a : later ≡ splice area (16384 * s + n) o) where
+    pub settles-more : (k : ℕ) → g .mor ≡ true → k ≡ Rules.nextNumber (g .number)
+        → u .slots ≡ set (t .slots) s (record { used = true; key = g .key; next = k; choice = g .choice; held = n + length o })
+        → Gives (Rules.settle keys seg s n box) (record { answer = Held s (n + length o); slots = u }) later
+    settles-more k m e d = gives-more t area g o s n u later m (rw e at d) a
+
+    pub settles-last : g .mor ≡ false → u .slots ≡ set (t .slots) s freeSlot
+        → Gives (Rules.settle keys seg s n box) (record { answer = Complete s (n + length o); slots = u }) later
+    settles-last m d = gives-last t area g o s n u later m d a
+
+  -- 55 and 54; b: whether no number comes after
+  module _ (s n : ℕ) (b : Bool) (e : b ≡ Rules.spent (g .number) (g .mor)) where
+    pub fits-55 : {r : Taken} → b ≡ true → (r .answer ≡ Refused 55) × (r .slots .slots ≡ set (t .slots) s freeSlot) → Gives (Rules.fitted keys seg (some s) n box) r area
+    fits-55 q w = gives-by (fitted-55 keys seg box (some s) n (sym e ∙ q)) (gives-lost t area 55 s w)
+
+    pub fits-54 : {r : Taken} → b ≡ false → 16384 < n + length o → (r .answer ≡ Refused 54) × (r .slots .slots ≡ set (t .slots) s freeSlot)
+        → Gives (Rules.fitted keys seg (some s) n box) r area
+    fits-54 q h w = gives-by (fitted-54 keys seg box (some s) n (sym e ∙ q) (lt-ltb 16384 (n + length o) h)) (gives-lost t area 54 s w)
+
+    pub fits-on : {r : Taken} {later : List ℕ} → b ≡ false → n + length o ≤ 16384 → Gives (Rules.settle keys seg s n box) r later → Gives (Rules.fitted keys seg (some s) n box) r later
+    fits-on q h w = gives-by (fitted-on keys seg box (some s) n (sym e ∙ q) (le-ltb 16384 (n + length o) h)) w
+
+  -- its key is open in slot s; b: whether it starts the message anew
+  module _ (s : ℕ) (b : Bool) (e : b ≡ Rules.startsAt (g .number) true (getD (t .slots) s freeSlot .next)) where
+    abbrev here : Messages.Slot Key
+    here = seen (getD (t .slots) s freeSlot)
+
+    by-record : {d : Rules.Done Key} {r : Taken} {later : List ℕ} → Rules.rows keys seg (some s) here box ≡ d → Gives d r later
+        → Gives (Rules.rows keys seg (some s) (Messages.slotAt keys (view t) s) box) r later
+    by-record q w = gives-by (ap (λ (x : Messages.Slot Key). Rules.rows keys seg (some s) x box) (seen-at t s) ∙ q) w
+
+    pub opens-anew : {r : Taken} {later : List ℕ} → b ≡ true → Gives (Rules.fitted keys seg (some s) 0 box) r later
+        → Gives (Rules.rows keys seg (some s) (Messages.slotAt keys (view t) s) box) r later
+    opens-anew q w = by-record (open-restart keys seg box s here (sym e ∙ q)) w
+
+    module _ (q : b ≡ false) where
+      pub opens-52 : {r : Taken} → (g .number ≡ here .next → ⊥) → (r .answer ≡ Refused 52) × (r .slots ≡ t)
+          → Gives (Rules.rows keys seg (some s) (Messages.slotAt keys (view t) s) box) r area
+      opens-52 h w = by-record (open-52 keys seg box s here (sym e ∙ q) (ne-eqb (g .number) (here .next) h)) (gives-kept t area 52 w)
+
+      module _ (h : g .number ≡ here .next) where
+        pub opens-53 : {r : Taken} → (g .choice ≡ here .choice → ⊥) → (r .answer ≡ Refused 53) × (r .slots ≡ t)
+            → Gives (Rules.rows keys seg (some s) (Messages.slotAt keys (view t) s) box) r area
+        opens-53 k w = by-record (open-53 keys seg box s here (sym e ∙ q) (eq-eqb (g .number) (here .next) h) (ne-eqb (g .choice) (here .choice) k)) (gives-kept t area 53 w)
+
+        pub opens-on : {r : Taken} {later : List ℕ} → g .choice ≡ here .choice → Gives (Rules.fitted keys seg (some s) (here .held) box) r later
+            → Gives (Rules.rows keys seg (some s) (Messages.slotAt keys (view t) s) box) r later
+        opens-on k w = by-record (open-on keys seg box s here (sym e ∙ q) (eq-eqb (g .number) (here .next) h) (eq-eqb (g .choice) (here .choice) k)) w
+
+  -- its key is not open; b: whether it starts a message, f: the lowest free slot
+  module _ (b : Bool) (e : b ≡ Rules.startsAt (g .number) false 0) where
+    pub news-51 : {r : Taken} → not b ≡ true → (r .answer ≡ Refused 51) × (r .slots ≡ t) → Gives (Rules.rows keys seg none (Messages.empty keys) box) r area
+    news-51 n w = gives-by (new-51 keys seg box (sym e ∙ not-true b n)) (gives-kept t area 51 w)
+
+    module _ (n : not b ≡ false) where
+      unspent : Rules.spent (g .number) (g .mor) ≡ false
+      unspent = starts-unspent (g .number) (g .mor) b e n
+
+      pub news-54 : {r : Taken} → 16384 < length o → (r .answer ≡ Refused 54) × (r .slots ≡ t) → Gives (Rules.rows keys seg none (Messages.empty keys) box) r area
+      news-54 h w =
+          gives-by (new-start keys seg box (sym e ∙ not-false b n) ∙ fitted-54 keys seg box none 0 unspent (lt-ltb 16384 (0 + length o) (omega arith)))
+          (gives-kept t area 54 w)
+
+      module _ (h : length o ≤ 16384) (f : Found) (k : f ≡ found 0 (Messages.lowest (Messages.isFree keys) (view t))) where
+        -- with octets that fit it goes to the lowest free slot
+        to-free : {x : Option ℕ} → Messages.lowest (Messages.isFree keys) (view t) ≡ x → Rules.rows keys seg none (Messages.empty keys) box ≡ Rules.settled keys seg x 0 box
+        to-free q =
+            new-start keys seg box (sym e ∙ not-false b n)
+            ∙ fitted-on keys seg box none 0 unspent (le-ltb 16384 (0 + length o) (omega arith))
+            ∙ ap (λ (x : Option ℕ). Rules.settled keys seg x 0 box) q
+
+        pub news-settles : {r : Taken} {later : List ℕ} (s : ℕ) → f ≡ At s → Gives (Rules.settle keys seg s 0 box) r later
+            → Gives (Rules.rows keys seg none (Messages.empty keys) box) r later
+        news-settles s q w = gives-by (to-free (found-at _ s (sym k ∙ q))) w
+
+        pub news-50 : {r : Taken} → f ≡ Nothing → (r .answer ≡ Refused 50) × (r .slots ≡ t) → Gives (Rules.rows keys seg none (Messages.empty keys) box) r area
+        news-50 q w = gives-by (to-free (found-none 0 _ (sym k ∙ q))) (gives-kept t area 50 w)
+
+  -- the whole call; f: the slot of its key
+  pub takes-60 : {r : Taken} → (length area ≡ 65536 → ⊥) → (r .answer ≡ Refused 60) × (r .slots ≡ t) → Gives (taking t g o area) r area
+  takes-60 h w = gives-by (taking-60 t g o area h) (gives-kept t area 60 w)
+
+  module _ (h : length area ≡ 65536) (f : Found) (k : f ≡ found 0 (Messages.slotOf keys (g .key) (view t))) where
+    pub takes-open : {r : Taken} {later : List ℕ} (s : ℕ) → f ≡ At s → Gives (Rules.rows keys seg (some s) (Messages.slotAt keys (view t) s) box) r later
+        → Gives (taking t g o area) r later
+    takes-open s q w = gives-by (taking-on t g o area h ∙ rebuild-open keys seg box s (found-at _ s (sym k ∙ q))) w
+
+    pub takes-new : {r : Taken} {later : List ℕ} → f ≡ Nothing → Gives (Rules.rows keys seg none (Messages.empty keys) box) r later → Gives (taking t g o area) r later
+    takes-new q w = gives-by (taking-on t g o area h ∙ rebuild-new keys seg box (found-none 0 _ (sym k ∙ q))) w
