@@ -5,7 +5,6 @@ use mathlib.Core.List.{List}
 use mathlib.Core.Option.{Option, none, some}
 use Prim.Native.Nat.{ℕ, _+_, _*_, _≤_, _<_}
 use native.Mathlib.Omega.{arith}
-use lib.Dec.{eqb}
 use lib.ListN.{length, getD, set, drop}
 use borrow.Author.Tests.{not-true, not-false, lt-ltb, le-ltb, eq-eqb, ne-eqb}
 use Rattle.octets.specs.Choice.{both}
@@ -16,7 +15,7 @@ use Rattle.messages.specs.Sound as Sound
 use Rattle.messages.proofs.Starts.{starts-zero}
 use Rattle.messages.proofs.Rows.{rebuild-open, rebuild-new, new-51, new-start, open-restart, open-52, open-53, open-on, fitted-55, fitted-54, fitted-on}
 use Rattle.messages.proofs.Sound.{sound-over, sound-strange, sound-twice, sound-on, sound-end}
-use Rattle.rebuild.specs.View.{keys, sameKey, freeSlot, seen, view, segmentOf, found}
+use Rattle.rebuild.specs.View.{keys, freeSlot, seen, view, segmentOf, found}
 use Rattle.rebuild.specs.Calls.{Gives, taking, Forgets}
 use Rattle.rebuild.specs.declared.Key.{Key}
 use Rattle.rebuild.specs.declared.Slot.{Slot}
@@ -24,7 +23,6 @@ use Rattle.rebuild.specs.declared.Slots.{Slots}
 use Rattle.rebuild.specs.declared.Segment.{Segment}
 use Rattle.rebuild.specs.declared.Step.the-variants.{Refused, Held, Complete}
 use Rattle.rebuild.specs.declared.Taken.{Taken}
-use Rattle.rebuild.specs.declared.Forgot.{Forgot}
 use Rattle.rebuild.specs.declared.search.Found.{Found}
 use Rattle.rebuild.specs.declared.search.Found.the-variants.{At, Nothing}
 use Rattle.rebuild.proofs.Lookup.{turn, meets, ends, found-at, found-none}
@@ -83,7 +81,8 @@ module _ (t : Slots) (s : ℕ) (w : Looking (Messages.isFree keys) t 0 s) where
     free-on n = passes-by (Messages.isFree keys) t 0 s w h (free-at t s true (not-false _ n))
 
 -- what a search of the four slots finds is one of them
-pub found-here : (p : Messages.Slot Key → Bool) (t : Slots) (f : Found) → f ≡ found 0 (Messages.lowest p (view t)) → (s : ℕ) → f ≡ At s → length (t .slots) ≡ 4 → s < 4
+pub found-here : (p : Messages.Slot Key → Bool) (t : Slots) (f : Found) → f ≡ found 0 (Messages.lowest p (view t))
+    → (s : ℕ) → f ≡ At s → length (t .slots) ≡ 4 → s < 4
 found-here p t f e s q k = found-below p t s 4 k (found-at _ s (sym e ∙ q))
 
 -- ---- whether slot s is open and a later open slot has its key, f being what the search from start on found
@@ -147,8 +146,16 @@ module _ (t : Slots) (s at : ℕ) (e : at ≡ s) where
   pub forget-free : getD (t .slots) at freeSlot .used ≡ false → Forgets t s (record { number = 56; slots = t })
   forget-free q = forgets-not t s (at-view (λ (x : Messages.Slot Key). x .used) t s ∙ rw e at q)
 
-  pub forget-open : (u : Slots) → getD (t .slots) at freeSlot .used ≡ true → u .slots ≡ set (t .slots) at freeSlot → Forgets t s (record { number = 0; slots = u })
+  pub forget-open : (u : Slots) → getD (t .slots) at freeSlot .used ≡ true → u .slots ≡ set (t .slots) at freeSlot
+      → Forgets t s (record { number = 0; slots = u })
   forget-open u q d = forgets t s u (at-view (λ (x : Messages.Slot Key). x .used) t s ∙ rw e at q) (rw e at d)
+
+-- ---- the answers that refuse: every slot is kept, or slot s is freed
+abbrev Kept : ℕ → Slots → Taken → Type 0
+Kept m t r = (r .answer ≡ Refused m) × (r .slots ≡ t)
+
+abbrev Lost : ℕ → Slots → ℕ → Taken → Type 0
+Lost m t s r = (r .answer ≡ Refused m) × (r .slots .slots ≡ set (t .slots) s freeSlot)
 
 -- ---- a segment that starts a message is not 55's
 pub starts-unspent : (number : ℕ) (mor b : Bool) → b ≡ Rules.startsAt number false 0 → not b ≡ false → Rules.spent number mor ≡ false
@@ -162,27 +169,39 @@ module _ (t : Slots) (g : Segment) (o area : List ℕ) where
   abbrev box : Messages.Box Key
   box = Messages.boxed (view t) area
 
+  -- what is answered and left is what the rules give: laid in slot s behind n octets; behind 55 and 54; its key open in slot s; its key not open
+  abbrev Settled : ℕ → ℕ → Taken → List ℕ → Type 0
+  Settled s n = Gives (Rules.settle keys seg s n box)
+
+  abbrev Fitted : ℕ → ℕ → Taken → List ℕ → Type 0
+  Fitted s n = Gives (Rules.fitted keys seg (some s) n box)
+
+  abbrev Open : ℕ → Taken → List ℕ → Type 0
+  Open s = Gives (Rules.rows keys seg (some s) (Messages.slotAt keys (view t) s) box)
+
+  abbrev New : Taken → List ℕ → Type 0
+  New = Gives (Rules.rows keys seg none (Messages.empty keys) box)
+
   -- laid in slot s behind n octets; k is the number after its own
   module _ (s n : ℕ) (u : Slots) (later : List ℕ) (a : later ≡ splice area (16384 * s + n) o) where
     pub settles-more : (k : ℕ) → g .mor ≡ true → k ≡ Rules.nextNumber (g .number)
         → u .slots ≡ set (t .slots) s (record { used = true; key = g .key; next = k; choice = g .choice; held = n + length o })
-        → Gives (Rules.settle keys seg s n box) (record { answer = Held s (n + length o); slots = u }) later
+        → Settled s n (record { answer = Held s (n + length o); slots = u }) later
     settles-more k m e d = gives-more t area g o s n u later m (rw e at d) a
 
     pub settles-last : g .mor ≡ false → u .slots ≡ set (t .slots) s freeSlot
-        → Gives (Rules.settle keys seg s n box) (record { answer = Complete s (n + length o); slots = u }) later
+        → Settled s n (record { answer = Complete s (n + length o); slots = u }) later
     settles-last m d = gives-last t area g o s n u later m d a
 
   -- 55 and 54; b: whether no number comes after
   module _ (s n : ℕ) (b : Bool) (e : b ≡ Rules.spent (g .number) (g .mor)) where
-    pub fits-55 : {r : Taken} → b ≡ true → (r .answer ≡ Refused 55) × (r .slots .slots ≡ set (t .slots) s freeSlot) → Gives (Rules.fitted keys seg (some s) n box) r area
+    pub fits-55 : {r : Taken} → b ≡ true → Lost 55 t s r → Fitted s n r area
     fits-55 q w = gives-by (fitted-55 keys seg box (some s) n (sym e ∙ q)) (gives-lost t area 55 s w)
 
-    pub fits-54 : {r : Taken} → b ≡ false → 16384 < n + length o → (r .answer ≡ Refused 54) × (r .slots .slots ≡ set (t .slots) s freeSlot)
-        → Gives (Rules.fitted keys seg (some s) n box) r area
+    pub fits-54 : {r : Taken} → b ≡ false → 16384 < n + length o → Lost 54 t s r → Fitted s n r area
     fits-54 q h w = gives-by (fitted-54 keys seg box (some s) n (sym e ∙ q) (lt-ltb 16384 (n + length o) h)) (gives-lost t area 54 s w)
 
-    pub fits-on : {r : Taken} {later : List ℕ} → b ≡ false → n + length o ≤ 16384 → Gives (Rules.settle keys seg s n box) r later → Gives (Rules.fitted keys seg (some s) n box) r later
+    pub fits-on : {r : Taken} {later : List ℕ} → b ≡ false → n + length o ≤ 16384 → Settled s n r later → Fitted s n r later
     fits-on q h w = gives-by (fitted-on keys seg box (some s) n (sym e ∙ q) (le-ltb 16384 (n + length o) h)) w
 
   -- its key is open in slot s; b: whether it starts the message anew
@@ -190,65 +209,61 @@ module _ (t : Slots) (g : Segment) (o area : List ℕ) where
     abbrev here : Messages.Slot Key
     here = seen (getD (t .slots) s freeSlot)
 
-    by-record : {d : Rules.Done Key} {r : Taken} {later : List ℕ} → Rules.rows keys seg (some s) here box ≡ d → Gives d r later
-        → Gives (Rules.rows keys seg (some s) (Messages.slotAt keys (view t) s) box) r later
+    by-record : {d : Rules.Done Key} {r : Taken} {later : List ℕ} → Rules.rows keys seg (some s) here box ≡ d → Gives d r later → Open s r later
     by-record q w = gives-by (ap (λ (x : Messages.Slot Key). Rules.rows keys seg (some s) x box) (seen-at t s) ∙ q) w
 
-    pub opens-anew : {r : Taken} {later : List ℕ} → b ≡ true → Gives (Rules.fitted keys seg (some s) 0 box) r later
-        → Gives (Rules.rows keys seg (some s) (Messages.slotAt keys (view t) s) box) r later
+    pub opens-anew : {r : Taken} {later : List ℕ} → b ≡ true → Fitted s 0 r later → Open s r later
     opens-anew q w = by-record (open-restart keys seg box s here (sym e ∙ q)) w
 
     module _ (q : b ≡ false) where
-      pub opens-52 : {r : Taken} → (g .number ≡ here .next → ⊥) → (r .answer ≡ Refused 52) × (r .slots ≡ t)
-          → Gives (Rules.rows keys seg (some s) (Messages.slotAt keys (view t) s) box) r area
+      pub opens-52 : {r : Taken} → (g .number ≡ here .next → ⊥) → Kept 52 t r → Open s r area
       opens-52 h w = by-record (open-52 keys seg box s here (sym e ∙ q) (ne-eqb (g .number) (here .next) h)) (gives-kept t area 52 w)
 
       module _ (h : g .number ≡ here .next) where
-        pub opens-53 : {r : Taken} → (g .choice ≡ here .choice → ⊥) → (r .answer ≡ Refused 53) × (r .slots ≡ t)
-            → Gives (Rules.rows keys seg (some s) (Messages.slotAt keys (view t) s) box) r area
-        opens-53 k w = by-record (open-53 keys seg box s here (sym e ∙ q) (eq-eqb (g .number) (here .next) h) (ne-eqb (g .choice) (here .choice) k)) (gives-kept t area 53 w)
+        pub opens-53 : {r : Taken} → (g .choice ≡ here .choice → ⊥) → Kept 53 t r → Open s r area
+        opens-53 k w =
+            by-record (open-53 keys seg box s here (sym e ∙ q) (eq-eqb (g .number) (here .next) h) (ne-eqb (g .choice) (here .choice) k))
+            (gives-kept t area 53 w)
 
-        pub opens-on : {r : Taken} {later : List ℕ} → g .choice ≡ here .choice → Gives (Rules.fitted keys seg (some s) (here .held) box) r later
-            → Gives (Rules.rows keys seg (some s) (Messages.slotAt keys (view t) s) box) r later
+        pub opens-on : {r : Taken} {later : List ℕ} → g .choice ≡ here .choice → Fitted s (here .held) r later → Open s r later
         opens-on k w = by-record (open-on keys seg box s here (sym e ∙ q) (eq-eqb (g .number) (here .next) h) (eq-eqb (g .choice) (here .choice) k)) w
 
   -- its key is not open; b: whether it starts a message, f: the lowest free slot
   module _ (b : Bool) (e : b ≡ Rules.startsAt (g .number) false 0) where
-    pub news-51 : {r : Taken} → not b ≡ true → (r .answer ≡ Refused 51) × (r .slots ≡ t) → Gives (Rules.rows keys seg none (Messages.empty keys) box) r area
+    pub news-51 : {r : Taken} → not b ≡ true → Kept 51 t r → New r area
     news-51 n w = gives-by (new-51 keys seg box (sym e ∙ not-true b n)) (gives-kept t area 51 w)
 
     module _ (n : not b ≡ false) where
       unspent : Rules.spent (g .number) (g .mor) ≡ false
       unspent = starts-unspent (g .number) (g .mor) b e n
 
-      pub news-54 : {r : Taken} → 16384 < length o → (r .answer ≡ Refused 54) × (r .slots ≡ t) → Gives (Rules.rows keys seg none (Messages.empty keys) box) r area
+      pub news-54 : {r : Taken} → 16384 < length o → Kept 54 t r → New r area
       news-54 h w =
           gives-by (new-start keys seg box (sym e ∙ not-false b n) ∙ fitted-54 keys seg box none 0 unspent (lt-ltb 16384 (0 + length o) (omega arith)))
           (gives-kept t area 54 w)
 
       module _ (h : length o ≤ 16384) (f : Found) (k : f ≡ found 0 (Messages.lowest (Messages.isFree keys) (view t))) where
         -- with octets that fit it goes to the lowest free slot
-        to-free : {x : Option ℕ} → Messages.lowest (Messages.isFree keys) (view t) ≡ x → Rules.rows keys seg none (Messages.empty keys) box ≡ Rules.settled keys seg x 0 box
+        to-free : {x : Option ℕ} → Messages.lowest (Messages.isFree keys) (view t) ≡ x
+            → Rules.rows keys seg none (Messages.empty keys) box ≡ Rules.settled keys seg x 0 box
         to-free q =
             new-start keys seg box (sym e ∙ not-false b n)
             ∙ fitted-on keys seg box none 0 unspent (le-ltb 16384 (0 + length o) (omega arith))
             ∙ ap (λ (x : Option ℕ). Rules.settled keys seg x 0 box) q
 
-        pub news-settles : {r : Taken} {later : List ℕ} (s : ℕ) → f ≡ At s → Gives (Rules.settle keys seg s 0 box) r later
-            → Gives (Rules.rows keys seg none (Messages.empty keys) box) r later
+        pub news-settles : {r : Taken} {later : List ℕ} (s : ℕ) → f ≡ At s → Settled s 0 r later → New r later
         news-settles s q w = gives-by (to-free (found-at _ s (sym k ∙ q))) w
 
-        pub news-50 : {r : Taken} → f ≡ Nothing → (r .answer ≡ Refused 50) × (r .slots ≡ t) → Gives (Rules.rows keys seg none (Messages.empty keys) box) r area
+        pub news-50 : {r : Taken} → f ≡ Nothing → Kept 50 t r → New r area
         news-50 q w = gives-by (to-free (found-none 0 _ (sym k ∙ q))) (gives-kept t area 50 w)
 
   -- the whole call; f: the slot of its key
-  pub takes-60 : {r : Taken} → (length area ≡ 65536 → ⊥) → (r .answer ≡ Refused 60) × (r .slots ≡ t) → Gives (taking t g o area) r area
+  pub takes-60 : {r : Taken} → (length area ≡ 65536 → ⊥) → Kept 60 t r → Gives (taking t g o area) r area
   takes-60 h w = gives-by (taking-60 t g o area h) (gives-kept t area 60 w)
 
   module _ (h : length area ≡ 65536) (f : Found) (k : f ≡ found 0 (Messages.slotOf keys (g .key) (view t))) where
-    pub takes-open : {r : Taken} {later : List ℕ} (s : ℕ) → f ≡ At s → Gives (Rules.rows keys seg (some s) (Messages.slotAt keys (view t) s) box) r later
-        → Gives (taking t g o area) r later
+    pub takes-open : {r : Taken} {later : List ℕ} (s : ℕ) → f ≡ At s → Open s r later → Gives (taking t g o area) r later
     takes-open s q w = gives-by (taking-on t g o area h ∙ rebuild-open keys seg box s (found-at _ s (sym k ∙ q))) w
 
-    pub takes-new : {r : Taken} {later : List ℕ} → f ≡ Nothing → Gives (Rules.rows keys seg none (Messages.empty keys) box) r later → Gives (taking t g o area) r later
+    pub takes-new : {r : Taken} {later : List ℕ} → f ≡ Nothing → New r later → Gives (taking t g o area) r later
     takes-new q w = gives-by (taking-on t g o area h ∙ rebuild-new keys seg box (found-none 0 _ (sym k ∙ q))) w

@@ -8,4 +8,15 @@ settle-requires : tie.Need-settle-requires
 settle-requires c κs = (record { here = omega arith; within = omega arith; sized = search needs }, search (needs, answered))
 
 pub fitted-spec : {M : Type 1} → statement M
-fitted-spec = tie.close (tie.spec (λ c κs. search needs) (λ c κs. search needs) (λ c. search (needs, fits-55)) (λ c. search needs) (λ c κs. search needs) (λ c. search (needs, fits-54)) settle-requires (λ c. search needs) (λ c. search (needs, fits-on)))
+fitted-spec =
+    tie.close
+    (tie.spec
+    (λ c κs. search needs)
+    (λ c κs. search needs)
+    (λ c. search (needs, fits-55))
+    (λ c. search needs)
+    (λ c κs. search needs)
+    (λ c. search (needs, fits-54))
+    settle-requires
+    (λ c. search needs)
+    (λ c. search (needs, fits-on)))

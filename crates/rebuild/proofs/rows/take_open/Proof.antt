@@ -3,6 +3,7 @@ use Rattle.rebuild.proofs.Ways.{opens-anew, opens-52, opens-53, opens-o
 use Rattle.rebuild.proofs.rows.take_open.Statement.{statement}
 use Rattle.rebuild.proofs.rows.take_open.Tie as tie
 
+-- that the segment does not start anew is too far back for the search: it is taken from behind `starts` and the first test
 returns-4 : tie.Need-returns-4
 returns-4 c =
     let e = (let q : tie.After-starts = search needs in q .starts .ensures) in
