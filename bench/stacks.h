@@ -3,12 +3,13 @@ static uint8_t deep_state[HB_STATE], deep_fields[HB_NPDU], deep_out[HB_SLOT], de
 static size_t deep_number;
 static uint8_t deep_told;
 
-/* a network header with all its parts; a confirmed request in segments; sixteen groups, one in the other; an ack with a value of one real */
+/* a network header with all its parts; a confirmed request in segments; sixteen groups, one in the other; an ack whose value has fifteen more in its group */
 static const uint8_t deep_npdu[] = {1, 0x28, 0, 5, 7, 1, 2, 3, 4, 5, 6, 7, 0, 9, 7, 1, 2, 3, 4, 5, 6, 7, 255};
 static const uint8_t deep_apdu[] = {0x0C, 5, 1, 0, 1, 12};
 static uint8_t deep_items[2 * 16 + 5];
-static const uint8_t deep_ack[] = {0x0C, 0, 0, 0, 1, 0x19, 0x55, 0x3E, 0x44, 0x42, 0x39, 0x99, 0x9A, 0x3F};
+static const uint8_t deep_target[] = {0x0C, 0, 0, 0, 1, 0x19, 0x55};
 static const uint8_t deep_real[] = {0x44, 0x42, 0x39, 0x99, 0x9A};
+static uint8_t deep_ack[sizeof deep_target + sizeof deep_items];
 
 #define DEEP(name, call) \
     static void name(void) { call; }
@@ -27,7 +28,7 @@ DEEP(deep_item_next, hb_item_next(deep_items, sizeof deep_items, 0, &deep_number
 DEEP(deep_item_step, hb_item_step(deep_items, sizeof deep_items, 0, deep_fields, HB_ITEM, &deep_number))
 DEEP(deep_items_write, hb_items_write(deep_list, sizeof deep_list, deep_items, sizeof deep_items, deep_out, sizeof deep_out, &deep_number))
 DEEP(deep_service_read, hb_service_read(3, 12, deep_ack, sizeof deep_ack, deep_fields, HB_SERVICE))
-DEEP(deep_service_write, hb_service_write(deep_fields, HB_SERVICE, deep_real, sizeof deep_real, deep_out, sizeof deep_out, &deep_number))
+DEEP(deep_service_write, hb_service_write(deep_fields, HB_SERVICE, deep_items + 1, sizeof deep_items - 2, deep_out, sizeof deep_out, &deep_number))
 
 static void stacks(size_t (*used_by)(void (*)(void)))
 {
@@ -39,6 +40,7 @@ static void stacks(size_t (*used_by)(void (*)(void)))
         {"hb_items_write", deep_items_write}, {"hb_service_read", deep_service_read}, {"hb_service_write", deep_service_write}};
     for (int i = 0; i < 16; i++) deep_items[i] = 0x3E, deep_items[sizeof deep_items - 1 - i] = 0x3F;
     for (int i = 0; i < 5; i++) deep_items[16 + i] = deep_real[i];
+    for (size_t i = 0; i < sizeof deep_ack; i++) deep_ack[i] = i < sizeof deep_target ? deep_target[i] : deep_items[i - sizeof deep_target];
     for (size_t i = 0; i < sizeof calls / sizeof *calls; i++) {
         say("| ");
         say(calls[i].name);

@@ -10,6 +10,9 @@
    60 *eaten is 0: a loop that offers the rest of its piece again must look at the answer, or it never ends. 60 is a mistake in the program, an area of another
    size. 59 is a state area that was not made by hb_fresh or was written by somebody else: make it anew by hb_fresh; what was half received is lost, and only that.
 
+   Stack. Measured, in octets: hb_feed 3,904; hb_service_read 3,264; hb_items_list 3,008; hb_item_step 2,992; hb_items_count 2,976; hb_item_next 2,944;
+   hb_service_write 1,200; every other call below 500 (docs/PERFORMANCE.md).
+
    What each call promises is proved; its statement stands in crates/hitchbarley/src, with the definitions in specs. */
 #ifndef HITCHBARLEY_H
 #define HITCHBARLEY_H
