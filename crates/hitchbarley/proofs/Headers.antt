@@ -1,25 +1,31 @@
 -- The header calls: what their records deserve, and what a reading fills in.
 use Prim.Native.Nat.{ℕ, _≤_, _<_}
+use native.Mathlib.Omega.{arith}
 use mathlib.Core.Path.{_≡_, refl}
 use mathlib.Core.List.{List}
 use lib.Dec.{eqb}
 use lib.ListN.{length}
 use borrow.Author.Tests.{ne-eqb, eq-eqb, le-leb, lt-leb}
 use Rattle.octets.specs.Reading.{oct}
+use Rattle.octets.specs.Laid.{Laid}
+use Rattle.octets.specs.declared.Written.{Written}
 use Rattle.npdu.specs.Reading.{readNpdu}
 use Rattle.npdu.specs.Fault as Npdu
+use Rattle.npdu.specs.Layout.{encode}
+use Rattle.npdu.specs.declared.Npdu as Declared
 use Rattle.npdu.specs.declared.Reading.{Reading}
 use Rattle.apdu.specs.Fields.{paramsAt}
 use Rattle.apdu.specs.Reading.{readApdu}
 use Rattle.apdu.specs.Fault as Apdu
+use Rattle.apdu.specs.Layout.{header}
 use Rattle.apdu.specs.declared.Pdu.{Pdu}
 use Rattle.apdu.specs.declared.Answer.{Answer}
 use Rattle.apdu.specs.declared.Answer.the-variants.{Good, Refused}
 use Rattle.records.specs.Network.{npduRecord, npduAt}
 use Rattle.records.specs.Application.{apduRecord, apduAt}
-use Rattle.hitchbarley.specs.Answers.{FillsTo}
+use Rattle.hitchbarley.specs.Answers.{writtenNumber, writtenCount, Writes, FillsTo}
 use Rattle.hitchbarley.specs.Headers.{apduGood, apduNumber, apduOctets, apduParams, npduFault, apduFault}
-use Rattle.hitchbarley.proofs.Answered.{fills-to-not, fills-to-good}
+use Rattle.hitchbarley.proofs.Answered.{writes-not, writes-value, fills-to-not, fills-to-good}
 
 -- ---- what a record to be written deserves
 module _ (o : List ℕ) where
@@ -42,6 +48,26 @@ module _ (o : List ℕ) where
   pub apdu-sized : length o ≡ 12 → oct o 0 ≤ 7 → apduFault o ≡ Apdu.faultOf (apduAt o)
   unfolding apduFault
   apdu-sized k h = rw (eq-eqb (length o) 12 k, le-leb (oct o 0) 7 h)
+
+-- ---- the ways through the writing calls: a record refused before it is a header, and a header written
+module _ (o x area : List ℕ) where
+  pub npdu-writes-other : (length o ≡ 29 → ⊥) → Writes (npduFault o) x area 60 0 area
+  npdu-writes-other h = writes-not 60 x area (npdu-other o h) (λ z. omega arith)
+
+  pub apdu-writes-other : (length o ≡ 12 → ⊥) → Writes (apduFault o) x area 60 0 area
+  apdu-writes-other h = writes-not 60 x area (apdu-other o h) (λ z. omega arith)
+
+  pub apdu-writes-beyond : length o ≡ 12 → 7 < oct o 0 → Writes (apduFault o) x area 21 0 area
+  apdu-writes-beyond k h = writes-not 21 x area (apdu-beyond o k h) (λ z. omega arith)
+
+module _ (o area later : List ℕ) (r wrote : ℕ) where
+  pub npdu-writes : length o ≡ 29 → (h : Declared.Npdu) → h ≡ npduAt o → (w : Written) → Laid (Npdu.faultOf h) (encode h) area w later
+      → (r ≡ writtenNumber w) × (wrote ≡ writtenCount w) → Writes (npduFault o) (encode (npduAt o)) area r wrote later
+  npdu-writes k h e w l a = writes-value Npdu.faultOf encode e (npdu-sized o k) l a
+
+  pub apdu-writes : length o ≡ 12 → oct o 0 ≤ 7 → (p : Pdu) → p ≡ apduAt o → (w : Written) → Laid (Apdu.faultOf p) (header p) area w later
+      → (r ≡ writtenNumber w) × (wrote ≡ writtenCount w) → Writes (apduFault o) (header (apduAt o)) area r wrote later
+  apdu-writes k h p e w l a = writes-value Apdu.faultOf header e (apdu-sized o k h) l a
 
 -- ---- what a reading fills in
 abbrev pub NpduFills : List ℕ → List ℕ → ℕ → ℕ → List ℕ → Type 0

@@ -15,7 +15,7 @@ use Rattle.rebuild.specs.declared.Slots.{Slots}
 use Rattle.rebuild.proofs.Seen.{unview-view}
 use Rattle.reports.specs.Layout.{reportSize}
 use Rattle.collector.specs.Calls as Calls
-use Rattle.collector.specs.Calls.{slotsOf, feedRefusal, feeding, silenceRefusal, stilling}
+use Rattle.collector.specs.Calls.{freshCollector, slotsOf, feedRefusal, feeding, silenceRefusal, stilling}
 use Rattle.collector.specs.Lent.{over, fedOver, Eats, fellOver, Hushes, forgotOver, Frees}
 use Rattle.collector.specs.declared.Collector.{Collector}
 use Rattle.collector.specs.declared.lent.Ate.{Ate}
@@ -24,7 +24,7 @@ use Rattle.collector.specs.declared.lent.Freed.{Freed}
 use Rattle.records.specs.Flag.{flag}
 use Rattle.state.specs.Link.{linkSize, linkOctets}
 use Rattle.state.specs.Layout.{storePlace, storeSize, slotsPlace, slotsSize, stateSize, storePart, slotsOctets, stateOctets}
-use Rattle.state.specs.Calls.{loadOf, liftOf, Lays}
+use Rattle.state.specs.Calls.{loadOf, liftOf, Lays, Saves}
 use Rattle.state.specs.declared.Lifted.{Lifted}
 use Rattle.state.proofs.Exact.{accepted-size, accepted-store}
 use Rattle.state.proofs.Places.{Holds, accepted-holds, holds-octets, holds-loads, store-over, link-over, slots-over}
@@ -75,6 +75,10 @@ lifted-size state e z = accepted-size state (rw e at z)
 lifted-number : (state : List ℕ) {w : Lifted} → w ≡ liftOf state → loadOf state .refused ≡ w .refused
 unfolding liftOf
 lifted-number state e = sym (ap (λ (x : Lifted). x .refused) e)
+
+-- ---- a fresh state
+pub saves-fresh : (c : Collector) → c ≡ freshCollector → (area : List ℕ) (r : ℕ) (later : List ℕ) → Saves c area r later → Saves freshCollector area r later
+saves-fresh c e area r later h = rw (← e) h
 
 -- ---- feeding
 module _ (state report area piece : List ℕ) where

@@ -1,4 +1,4 @@
-use Rattle.hitchbarley.proofs.Items.{steps}
+use Rattle.hitchbarley.proofs.Items.{steps-next, steps-not}
 use borrow.Author.Needs.{needs}
 use Rattle.hitchbarley.proofs.item_calls.hb_item_next.Statement.{statement}
 use Rattle.hitchbarley.proofs.item_calls.hb_item_next.Tie as tie
@@ -10,5 +10,5 @@ hb-item-next-spec =
     (λ c κs. search needs)
     (λ c. search needs)
     (λ c. search needs)
-    (λ c. steps (c .before .before .before .item-at .ensures) _ (c .before .n .given .1))
-    (λ c. steps (c .before .before .before .item-at .ensures) _ (c .before .x .given .1)))
+    (λ c. search (needs, steps-next))
+    (λ c. search (needs, steps-not)))

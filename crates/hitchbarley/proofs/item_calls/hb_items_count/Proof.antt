@@ -9,4 +9,4 @@ hb-items-count-spec =
     (tie.spec
     (λ c κs. search needs)
     (λ c κs. search needs)
-    (λ c. counts (c .before .before .count .ensures) (c .tallied .ensures)))
+    (λ c. search (needs, counts)))

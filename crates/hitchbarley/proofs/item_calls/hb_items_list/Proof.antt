@@ -10,4 +10,4 @@ hb-items-list-spec =
     (λ c κs. search needs)
     (λ c κs. search needs)
     (λ c. search needs)
-    (λ c. lists (c .before .before .before .before .list .ensures) (c .tallied .ensures)))
+    (λ c. search (needs, lists)))

@@ -10,4 +10,4 @@ hb-items-write-spec =
     (λ c κs. search needs)
     (λ c κs. search needs)
     (λ c. search needs)
-    (λ c. writes (c .before .before .before .before .write .ensures) (c .written .ensures)))
+    (λ c. search (needs, writes)))

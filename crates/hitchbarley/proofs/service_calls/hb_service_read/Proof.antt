@@ -8,11 +8,11 @@ pub hb-service-read-spec : {M : Type 1} → statement M
 hb-service-read-spec =
     tie.close
     (tie.spec
-    (λ c. fills-other 26 _ _ _ _ (c .if1 .taken))
+    (λ c. search (needs, fills-other))
     (λ c κs. search needs)
     (λ c. search needs)
     (λ c κs. search needs)
     (λ c. search needs)
     (λ c. search needs)
-    (λ c. service-good _ _ _ _ (c .before .before .before .before .before .before .before .read .result) (c .before .before .before .before .before .before .before .read .ensures) (c .before .before .before .before .before .before .before .before .if1 .left) _ (c .before .before .before .before .before .a .given .1) (c .before .before .put .ensures))
-    (λ c. service-not _ _ _ _ (c .before .before .before .read .result) (c .before .before .before .read .ensures) (c .before .before .before .before .if1 .left) _ (c .before .a2 .given .1)))
+    (λ c. search (needs, service-good))
+    (λ c. search (needs, service-not)))

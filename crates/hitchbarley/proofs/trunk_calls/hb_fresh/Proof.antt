@@ -1,3 +1,4 @@
+use Rattle.hitchbarley.proofs.Passed.{saves-fresh}
 use borrow.Author.Needs.{needs}
 use Rattle.hitchbarley.proofs.trunk_calls.hb_fresh.Statement.{statement}
 use Rattle.hitchbarley.proofs.trunk_calls.hb_fresh.Tie as tie
@@ -9,4 +10,4 @@ hb-fresh-spec =
     (λ c κs. search needs)
     (λ c κs. search needs)
     (λ c. search needs)
-    (λ c. rw (← c .before .before .before .before .fresh .ensures) (c .before .before .save .ensures)))
+    (λ c. search (needs, saves-fresh)))
