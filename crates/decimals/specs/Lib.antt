@@ -2,3 +2,4 @@ pub mod Room
 pub mod Worth
 pub mod Order
 pub mod Promises
+pub mod Division

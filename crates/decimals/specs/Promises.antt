@@ -20,6 +20,7 @@ pub record Added (before other after : List ℕ) (n over : ℕ) : Type 0 where
 
 -- the difference, with what is borrowed from beyond
 pub record Taken (before other after : List ℕ) (n borrowed : ℕ) : Type 0 where
+  pub most : borrowed ≤ 1
   pub long : length after ≡ length before
   pub limbs : n ≤ length before → Limbs before → Limbs after
   pub exact : n ≤ length before → worth after n + worth other n ≡ worth before n + borrowed * 4294967296 ^ n

@@ -1,6 +1,7 @@
 // The shortest digits of a number (Steele and White; Dragon4): r / s is the number, and plus / s and minus / s half the way to its neighbours.
 use crate::limbs;
 ghost use Prim.Native.Nat.{_≤_, _<_};
+ghost use Rattle.decimals.specs.Division.{Divided};
 
 // Whether t + plus reaches s: the number rounded up to the next power of ten still reads back. An even number owns its bounds.
 pub fn reaches(mut t: [u32; 40], plus: &[u32; 40], s: &[u32; 40], n: usize, even: bool) -> bool
@@ -27,7 +28,7 @@ fn exceeds(order: u8, even: bool) -> bool {
 // Takes s from r as often as it goes, and answers how often: at most nine times.
 pub fn digit(r: &mut [u32; 40], s: &[u32; 40], n: usize) -> u8
     requires { ⌜ n ≤ 40 ⌝ }
-    ensures { λ d. ⌜ d ≤ 9 ⌝ }
+    ensures { λ d. ⌜ Divided (now (r .entry)) (now (s .entry)) (now (r .exit)) n d ⌝ }
 {
     let mut d: u8 = 0;
     while d < 9 {

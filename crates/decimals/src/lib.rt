@@ -4,7 +4,7 @@ mod limbs;
 mod scaling;
 mod text;
 
-ghost use Prim.Native.Nat.{_+_, _≤_, _<_};
+ghost use Prim.Native.Nat.{_+_, _-_, _≤_, _<_};
 ghost use mathlib.Core.Path.{_≡_};
 ghost use lib.ListN.{length};
 ghost use Rattle.decimals.specs.Room.{Room};
@@ -64,9 +64,9 @@ fn nearest(bound: bool, up: usize) -> usize
     if bound { up } else { up + 1 }
 }
 
-// What a whole number's exponent is above another.
+// How far x is above y; 0 where it is not.
 fn above(x: usize, y: usize) -> usize
-    ensures { λ r. ⌜ r ≤ x ⌝ }
+    ensures { λ r. ⌜ r ≡ x - y ⌝ }
 {
     if y < x { x - y } else { 0 }
 }
@@ -98,32 +98,17 @@ fn fields(
             at,
         );
     }
-    let up = over(exponent, one);
+    let up = above(exponent, one);
     let down = above(one, exponent);
     finite(
         fraction + hidden,
         up,
         down,
         fraction == 0 && 1 < exponent,
-        limbs_for(larger(up, down), spare),
+        limbs_for(up + down, spare),
         out,
         at,
     )
-}
-
-// How far an exponent is above the one of whole numbers.
-fn over(exponent: usize, one: usize) -> usize
-    requires { ⌜ exponent ≤ 1100 + one ⌝ }
-    ensures { λ r. ⌜ r ≤ 1100 ⌝ }
-{
-    if one < exponent { exponent - one } else { 0 }
-}
-
-fn larger(x: usize, y: usize) -> usize
-    requires { ⌜ (x ≤ 1100) × (y ≤ 1100) ⌝ }
-    ensures { λ r. ⌜ r ≤ 1100 ⌝ }
-{
-    if x < y { y } else { x }
 }
 
 // The limbs that hold so many bits.

@@ -60,7 +60,7 @@ returns : tie.Need-returns Inv-loop μ-loop
 returns c =
     let l = c .before .loop in
     let e : l .i ≡ c .before .before .args .n = omega arith in
-    record { long = l .inv .2; limbs = l .inv .5; exact = λ h. rw e at (l .inv .4 h) }
+    record { most = l .inv .1; long = l .inv .2; limbs = l .inv .5; exact = λ h. rw e at (l .inv .4 h) }
 
 pub subtract-spec : {M : Type 1} → statement M
 subtract-spec =
