@@ -18,7 +18,7 @@ use Rattle.apdu.specs.Valid.{Follows}
 use Rattle.apdu.specs.Fault.{faultOf, shown}
 use Rattle.apdu.proofs.Exact.{written-reads-back, read-writes-back}
 use Rattle.apdu.proofs.Headers.{header-length}
-use Rattle.apdu_writer.specs.Writing.{Writes}
+use Rattle.apdu_writer.specs.Calls.{Writes}
 
 -- What was written, with parameters after it where the kind takes them, reads back as the same fields.
 pub write-read : (p : Pdu) (n : ℕ) (area later t : List ℕ) → Writes p area (Wrote n) later → Follows p t → readApdu (take n later ++ t) ≡ Good (shown p)

@@ -1,7 +1,7 @@
 // APDU headers (clause 20.1), written into a lent area. The caller lays the parameters after the header.
 use apdu::Pdu;
 use octets::Written;
-ghost use Rattle.apdu_writer.specs.Writing.{Writes};
+ghost use Rattle.apdu_writer.specs.Calls.{Writes};
 
 mod faults; // faults.rt: the first field that breaks a rule
 mod layouts; // layouts.rt: the octets of each kind

@@ -28,7 +28,8 @@ use Rattle.services.specs.Reading.{readService}
 use Rattle.services.specs.declared.Answer.{Answer as ServiceAnswer}
 use Rattle.services.specs.declared.Answer.the-variants as ServiceIs
 use Rattle.services.proofs.Refusals.{AnswerHas, read-has}
-use Rattle.service_writer.specs.Writing as ServiceWriter
+use Rattle.service_writer.specs.Layout as ServiceWriter
+use Rattle.service_writer.specs.Fault as ServiceFault
 use Rattle.messages.specs.Slots.{slotAt}
 use Rattle.rebuild.specs.View.{keys}
 use Rattle.rebuild.proofs.Seen.{length-view}
@@ -575,7 +576,7 @@ exported-apdu-write fields area r wrote later y =
 pub exported-service-write : ExportedServiceWrite
 unfolding serviceFault
 exported-service-write fields value area r wrote later y =
-    writes-from (length fields ≡ serviceSize) (eqb (length fields) serviceSize) (pick (leb (oct fields 0) 5) (ServiceWriter.faultOf (serviceAt fields) value) 43) _ area r wrote later
+    writes-from (length fields ≡ serviceSize) (eqb (length fields) serviceSize) (pick (leb (oct fields 0) 5) (ServiceFault.faultOf (serviceAt fields) value) 43) _ area r wrote later
     (eqb-true _ _) (eq-eqb _ _)
     (pick-case Not-sixty (leb (oct fields 0) 5)
     (λ z. ⊎-elim (λ e. differ 0 60 refl e z) (λ q. absurd (omega (arith, q .1))) (service-writer-numbers (serviceAt fields) value)) (λ z. omega arith)) y

@@ -14,7 +14,7 @@ use Rattle.npdu.specs.Reading as Npdu
 use Rattle.apdu.specs.Reading as Apdu
 use Rattle.apdu.specs.Fields.{tailEnd}
 use Rattle.tags.specs.Types.{least, most}
-use Rattle.tags.specs.Head.{headAt, numberAt, lengthAt, twoAt, fourAt, firstRule, firstContent, contentsAt, wholeAt, signBad, signedAt, contextAt, applicationAt}
+use Rattle.tags.specs.Reading.{headAt, numberAt, lengthAt, twoAt, fourAt, firstRule, firstContent, contentsAt, wholeAt, signBad, signedAt, contextAt, applicationAt}
 use Rattle.items.specs.Reading as Items
 use Rattle.items.specs.Reading.{more, ending, closes, step, walk, itemsOf}
 use Rattle.items.proofs.Examples.{worked}

@@ -19,7 +19,8 @@ use Rattle.services.specs.declared.Answer.the-variants.{Good, Refused}
 use Rattle.services.specs.declared.Service.{Service}
 use Rattle.services.specs.declared.Service.the-variants as Of
 use Rattle.services.proofs.Refusals.{Low, Laid, nowhere, layout-numbers}
-use Rattle.service_writer.specs.Writing.{kindOf, choiceOf, octetsOf, tooWide, refusalOf, faultOf}
+use Rattle.service_writer.specs.Layout.{kindOf, choiceOf, octetsOf}
+use Rattle.service_writer.specs.Fault.{tooWide, refusalOf, faultOf}
 use Rattle.demands.specs.Words.{Between}
 use Rattle.demands.specs.Demands.{ServiceNumbers, ServiceWriterNumbers}
 use Rattle.demands.proofs.Numbers.{count-numbers}

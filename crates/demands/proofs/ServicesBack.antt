@@ -16,7 +16,7 @@ use Rattle.octets.specs.Has.{Has, has-left, has-right, has-bound, all-has}
 use Rattle.octets.specs.Laid.{laid-wrote, laid-as}
 use Rattle.octets.specs.Numbers.{valueAt, digits, widthOf, value-digits, length-digits, octets-digits, width-holds, width-range, longForm, value-below}
 use Rattle.tags.specs.Types.{longest, least, most}
-use Rattle.tags.specs.Head.{headAt, numberAt, lengthAt, twoAt, fourAt, firstRule, firstContent, contentsAt, wholeAt, signBad, signedAt, contextAt, applicationAt}
+use Rattle.tags.specs.Reading.{headAt, numberAt, lengthAt, twoAt, fourAt, firstRule, firstContent, contentsAt, wholeAt, signBad, signedAt, contextAt, applicationAt}
 use Rattle.tags.specs.Layout as tag
 use Rattle.tags.specs.Layout.{Thing, Valid, tagOf, shortUnsigned, goodContents}
 use Rattle.tags.specs.Layout.Thing.{application, boolean, context, opening, closing}
@@ -41,7 +41,8 @@ use Rattle.services.specs.declared.Service.the-variants.{ReadProperty, ReadProp
 use Rattle.services.specs.declared.Target.{Target}
 use Rattle.services.proofs.Exact.{accepted}
 use Rattle.services.proofs.Refusals.{AnswerHas, read-has}
-use Rattle.service_writer.specs.Writing.{kindOf, choiceOf, octetsOf, wideTarget, tooWide, refusalOf, readFault, faultOf, grouped, ranked}
+use Rattle.service_writer.specs.Layout.{kindOf, choiceOf, octetsOf, grouped, ranked}
+use Rattle.service_writer.specs.Fault.{wideTarget, tooWide, refusalOf, readFault, faultOf}
 use Rattle.service_writer.proofs.Items.{not-wide}
 use Rattle.service_writer.proofs.Trips.{octets-are, writes-back}
 use Rattle.records.specs.Service.{serviceSize, serviceOf, serviceAt}

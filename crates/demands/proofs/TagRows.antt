@@ -9,7 +9,7 @@ use Rattle.octets.specs.Reading.{Octets}
 use Rattle.octets.specs.Has.{Has, all-has}
 use Rattle.octets.specs.Every.{octets-none, octets-more, octets-join}
 use Rattle.tags.specs.Types.{least, most}
-use Rattle.tags.specs.Head.{numberAt, twoAt, fourAt, lengthAt, firstRule, firstContent, wholeAt, signBad, signedAt, contentsAt, contextAt, applicationAt, headAt}
+use Rattle.tags.specs.Reading.{numberAt, twoAt, fourAt, lengthAt, firstRule, firstContent, wholeAt, signBad, signedAt, contentsAt, contextAt, applicationAt, headAt}
 use Rattle.tags.specs.Layout.{Thing, Valid, encode, tagOf, Good, Stands}
 use Rattle.tags.specs.Layout.Thing.{application, boolean, context, opening, closing}
 use Rattle.tags.specs.Rows.{Early, Given}

@@ -31,7 +31,8 @@ use Rattle.services.specs.declared.Service.{Service}
 use Rattle.services.specs.declared.Service.the-variants.{ReadProperty, ReadPropertyAck, WriteProperty, WhoIs, IAm, Error}
 use Rattle.services.specs.declared.Target.{Target}
 use Rattle.services.proofs.Exact as Services
-use Rattle.service_writer.specs.Writing.{kindOf, choiceOf, ranked, octetsOf, wideTarget, tooWide, faultOf}
+use Rattle.service_writer.specs.Layout.{kindOf, choiceOf, ranked, octetsOf}
+use Rattle.service_writer.specs.Fault.{wideTarget, tooWide, faultOf}
 use Rattle.service_writer.proofs.Trips as ServiceTrips
 use Rattle.demands.specs.Words.{shownTarget, shownService}
 use Rattle.demands.specs.Demands.{HeaderCheckExact, DataCheckExact, FramesExact, NetworkExact, NetworkWritesBack, NetworkReadsBack, HeadersExact, HeadersWriteBack, HeadersReadBack, TagsExact, ItemsExact, ItemsWriteBack, ItemsReadBack, ServicesExact, ServicesWriteBack, ServicesAreWritten}

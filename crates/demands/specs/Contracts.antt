@@ -33,7 +33,8 @@ use Rattle.item_judge.specs.Judge.{writeFault, recordsIn}
 use Rattle.services.specs.Reading.{readService}
 use Rattle.services.specs.declared.Answer as ServiceAnswer
 use Rattle.services.specs.declared.Service.{Service}
-use Rattle.service_writer.specs.Writing as ServiceWriter
+use Rattle.service_writer.specs.Layout as ServiceWriter
+use Rattle.service_writer.specs.Fault as ServiceFault
 use Rattle.reader.specs.Reading.{stepOf}
 use Rattle.reader.specs.declared.Reader.{Reader}
 use Rattle.reader.specs.declared.Step.{Step as ReaderStep}
@@ -167,7 +168,7 @@ pub record Contracts : Type 0 where
       (r ≡ readService kind choice (now s))
   pub services-write : (κ1 κ2 : Lft) (v : Service) (value out out′ : RefT (List ℕ)) (r : Written)
       → Contract (services-write-call.Pre (κ1, (κ2, tt)) (v, (value, (out, tt)))) (services-write-call.Post (κ1, (κ2, tt)) (v, (value, (out, tt))) r (v, (value, (out′, tt))))
-      (Laid (ServiceWriter.faultOf v (now value)) (ServiceWriter.octetsOf v (now value)) (now out) r (now out′))
+      (Laid (ServiceFault.faultOf v (now value)) (ServiceWriter.octetsOf v (now value)) (now out) r (now out′))
   pub reader-first : (κ1 : Lft) (s : RefT (List ℕ)) (r : ReaderStep)
       → Contract (reader-first-call.Pre (κ1, tt) (s, tt)) (reader-first-call.Post (κ1, tt) (s, tt) r (s, tt))
       (r ≡ stepOf (now s) 0)

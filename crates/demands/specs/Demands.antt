@@ -41,7 +41,7 @@ use Rattle.apdu.specs.Valid as HeaderRules
 use Rattle.apdu.specs.Fault as HeaderFault
 use Rattle.apdu.specs.Reading as HeaderRead
 use Rattle.tags.specs.Types.{longest}
-use Rattle.tags.specs.Head.{headAt}
+use Rattle.tags.specs.Reading.{headAt}
 use Rattle.tags.specs.Layout as Tags
 use Rattle.items.specs.Grammar as Items
 use Rattle.items.specs.Reading.{itemsOf, counted, itemAt, endOf}
@@ -61,7 +61,8 @@ use Rattle.services.specs.declared.Answer as ServiceAnswer
 use Rattle.services.specs.declared.Service.{Service}
 use Rattle.services.specs.declared.Service.the-variants.{WriteProperty}
 use Rattle.services.specs.declared.Target.{Target}
-use Rattle.service_writer.specs.Writing as ServiceWriter
+use Rattle.service_writer.specs.Layout as ServiceWriter
+use Rattle.service_writer.specs.Fault as ServiceFault
 use Rattle.messages.specs.Slots.{Segment, Box, part, room, boxed, empty, slotAt}
 use Rattle.messages.specs.Rows.{rebuild}
 use Rattle.messages.specs.History.{begun, Rebuilt, touches}
@@ -116,7 +117,7 @@ pub record OneAnswer : Type 0 where
       → One (Written × List ℕ) (λ x. Laid (writeFault records source) (Items.encodeAll (thingsOf source (recordsIn records))) out (x .0) (x .1))
   pub services-read : (kind choice : ℕ) (s : List ℕ) → One ServiceAnswer.Answer (λ r. r ≡ readService kind choice s)
   pub services-write : (v : Service) (value out : List ℕ)
-      → One (Written × List ℕ) (λ x. Laid (ServiceWriter.faultOf v value) (ServiceWriter.octetsOf v value) out (x .0) (x .1))
+      → One (Written × List ℕ) (λ x. Laid (ServiceFault.faultOf v value) (ServiceWriter.octetsOf v value) out (x .0) (x .1))
   pub reader-new : (s : RefT (List ℕ)) → One Reader (λ r. (r .params ≡ s) × (r .at ≡ 0))
   pub reader-next : (q : Reader) → One ReaderStep (λ r. r ≡ stepOf (now (q .params)) (q .at))
   pub reader-moved : (q : Reader) (at : ℕ) → One Reader (λ r. (r .params ≡ q .params) × (r .at ≡ at))
@@ -168,7 +169,7 @@ abbrev pub HeaderWriterNumbers : Type 0
 HeaderWriterNumbers = (p : Pdu) → (HeaderFault.faultOf p ≡ 0) ⊎ Between 22 23 (HeaderFault.faultOf p)
 
 abbrev pub ServiceWriterNumbers : Type 0
-ServiceWriterNumbers = (v : Service) (value : List ℕ) → (ServiceWriter.faultOf v value ≡ 0) ⊎ Between 30 42 (ServiceWriter.faultOf v value)
+ServiceWriterNumbers = (v : Service) (value : List ℕ) → (ServiceFault.faultOf v value ≡ 0) ⊎ Between 30 42 (ServiceFault.faultOf v value)
 
 -- 62 is given exactly when no octets read as the records
 abbrev pub SixtyTwo : Type 0
@@ -348,7 +349,7 @@ ServicesExact = (kind choice : ℕ) → Exactly (Services.Shows kind choice) (Se
 -- a service that was read is written, with the octets of its value, as the octets that it was read from
 abbrev pub ServicesWriteBack : Type 0
 ServicesWriteBack = (kind choice : ℕ) (o area later : List ℕ) (v : Service) (r : Written) → Octets o → readService kind choice o ≡ ServiceAnswer.Answer.Good v → length o ≤ length area
-    → (let value = ServiceWriter.valueIn o v in Laid (ServiceWriter.faultOf v value) (ServiceWriter.octetsOf v value) area r later
+    → (let value = ServiceWriter.valueIn o v in Laid (ServiceFault.faultOf v value) (ServiceWriter.octetsOf v value) area r later
     → (r ≡ Wrote (length o)) × (later ≡ o ++ drop (length o) area))
 
 -- what keeps the rules, absent parts taken as 0, is written wherever the area is long enough, and reads back as the same message
@@ -357,14 +358,14 @@ ServicesAreWritten = (v : Service) (ts : List Tags.Thing) (area later : List ℕ
     → (let value = Items.encodeAll ts in
     let m = Services.messageOf (shownService v) ts in
     Services.ValidFor (ServiceWriter.kindOf v) (ServiceWriter.choiceOf v) m → length (ServiceWriter.octetsOf v value) ≤ length area
-    → Laid (ServiceWriter.faultOf v value) (ServiceWriter.octetsOf v value) area r later
+    → Laid (ServiceFault.faultOf v value) (ServiceWriter.octetsOf v value) area r later
     → (n : ℕ) × (r ≡ Wrote n) × Services.Shows (ServiceWriter.kindOf v) (ServiceWriter.choiceOf v) (take n later) m)
 
 -- what was written reads back: whatever the value's octets are, the output is accepted, since the writer gives "the number that reading their output would give";
 -- where the value is whole items by itself, as the message that was written
 abbrev pub ServicesReadBack : Type 0
 ServicesReadBack = (v : Service) (value area later : List ℕ) (n : ℕ) → Octets later
-    → Laid (ServiceWriter.faultOf v value) (ServiceWriter.octetsOf v value) area (Wrote n) later
+    → Laid (ServiceFault.faultOf v value) (ServiceWriter.octetsOf v value) area (Wrote n) later
     → AcceptedBack v (take n later) × (KeptService v → WholeBack v value (take n later))
 
 -- the exception: a value that is not. With `0A` as value and 63 as priority, `3E 0A 3F 49 3F` is written; the item's contents are the group's closing and the
@@ -375,7 +376,7 @@ ServicesSwallow =
     let v : Service = WriteProperty (record { target = target; value = record { at = 0; len = 0 }; ranked = true; priority = 63 }) in
     let w : Service = WriteProperty (record { target = target; value = record { at = 8; len = 3 }; ranked = false; priority = 0 }) in
     let o = ServiceWriter.octetsOf v (0x0A ∷ []) in
-    (ServiceWriter.faultOf v (0x0A ∷ []) ≡ 0) × (readService 0 15 o ≡ ServiceAnswer.Answer.Good w) × (ServiceWriter.valueIn o w ≡ 0x0A ∷ 0x3F ∷ 0x49 ∷ []))
+    (ServiceFault.faultOf v (0x0A ∷ []) ≡ 0) × (readService 0 15 o ≡ ServiceAnswer.Answer.Good w) × (ServiceWriter.valueIn o w ≡ 0x0A ∷ 0x3F ∷ 0x49 ∷ []))
 
 -- ---- DEMAND 3. "From one state that refusal 59 passes and one message area, fix one run of trunk octets with silences and forget orders at fixed places. Cut the
 -- octets anywhere, offer the rest again after each report, lend areas of the right sizes that nobody else writes. Then reports, final state and message area are

@@ -25,7 +25,8 @@ use Rattle.item_judge.specs.Judge.{writeFault, recordsIn}
 use Rattle.reader.specs.Reading.{stepOf}
 use Rattle.reader.specs.declared.Step.the-variants as Step
 use Rattle.services.specs.Reading.{readService}
-use Rattle.service_writer.specs.Writing as ServiceWriter
+use Rattle.service_writer.specs.Layout as ServiceWriter
+use Rattle.service_writer.specs.Fault as ServiceFault
 use Rattle.messages.specs.Slots.{slotAt}
 use Rattle.rebuild.specs.View.{keys}
 use Rattle.reports.specs.Layout.{reportSize}
@@ -191,7 +192,7 @@ abbrev pub ExportedServiceWrite : Type 0
 ExportedServiceWrite = (fields value area : List ℕ) (r wrote : ℕ) (later : List ℕ)
     → (let o = ServiceWriter.octetsOf (serviceAt fields) value in
     Writes (serviceFault fields value) o area r wrote later
-    → WritesFrom (length fields ≡ serviceSize) (pick (leb (oct fields 0) 5) (ServiceWriter.faultOf (serviceAt fields) value) 43) o area r wrote later)
+    → WritesFrom (length fields ≡ serviceSize) (pick (leb (oct fields 0) 5) (ServiceFault.faultOf (serviceAt fields) value) 43) o area r wrote later)
 
 -- what hb_service_write wrote reads back, for the kind and choice of the record's service: ServicesReadBack over records
 abbrev pub ExportedServiceBack : Type 0

@@ -7,7 +7,7 @@ use lib.ListN.{length}
 use Rattle.octets.specs.Reading.{Octets}
 use Rattle.octets.specs.Has.{Has}
 use Rattle.tags.specs.Types.{longest, least, most}
-use Rattle.tags.specs.Head.{headAt}
+use Rattle.tags.specs.Reading.{headAt}
 use Rattle.tags.specs.Layout as Tags
 use Rattle.tags.specs.Rows.{Given}
 use Rattle.tags.specs.declared.Tag.{Tag}

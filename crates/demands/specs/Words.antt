@@ -30,7 +30,7 @@ use Rattle.services.specs.declared.Answer.the-variants.{Good}
 use Rattle.services.specs.declared.Service.{Service}
 use Rattle.services.specs.declared.Service.the-variants.{ReadProperty, ReadPropertyAck, WriteProperty, WhoIs, IAm, Error}
 use Rattle.services.specs.declared.Target.{Target}
-use Rattle.service_writer.specs.Writing.{kindOf, choiceOf, octetsOf, valueIn}
+use Rattle.service_writer.specs.Layout.{kindOf, choiceOf, octetsOf, valueIn}
 use Rattle.reports.specs.Layout.{reportSize}
 use Rattle.collector.specs.Calls.{slotsOf}
 use Rattle.collector.specs.Frame.{segmentAt, plainAt, answeredAt}

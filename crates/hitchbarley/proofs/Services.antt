@@ -12,7 +12,8 @@ use Rattle.services.specs.Reading.{readService}
 use Rattle.services.specs.declared.Answer.{Answer}
 use Rattle.services.specs.declared.Answer.the-variants.{Good, Refused}
 use Rattle.services.specs.declared.Service.{Service}
-use Rattle.service_writer.specs.Writing.{faultOf, octetsOf}
+use Rattle.service_writer.specs.Layout.{octetsOf}
+use Rattle.service_writer.specs.Fault.{faultOf}
 use Rattle.records.specs.Service.{serviceRecord, serviceAt}
 use Rattle.hitchbarley.specs.Answers.{writtenNumber, writtenCount, Writes, Fills}
 use Rattle.hitchbarley.specs.Services.{serviceGood, serviceNumber, serviceOctets, serviceFault}

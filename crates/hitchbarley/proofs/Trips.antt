@@ -30,7 +30,8 @@ use Rattle.apdu.specs.declared.Answer.the-variants.{Good}
 use Rattle.services.specs.Reading.{readService}
 use Rattle.services.specs.declared.Answer.{Answer}
 use Rattle.services.specs.declared.Service.{Service}
-use Rattle.service_writer.specs.Writing.{octetsOf, faultOf, valueIn}
+use Rattle.service_writer.specs.Layout.{octetsOf, valueIn}
+use Rattle.service_writer.specs.Fault.{faultOf}
 use Rattle.service_writer.proofs.Trips.{writes-back}
 use Rattle.records.specs.Network.{npduRecord, npduAt}
 use Rattle.records.specs.Application.{apduRecord, apduAt}

@@ -8,7 +8,7 @@ use Rattle.octets.specs.Choice.{pick}
 use Rattle.octets.specs.Reading.{oct}
 use Rattle.services.specs.declared.Answer.{Answer}
 use Rattle.services.specs.declared.Answer.the-variants.{Good, Refused}
-use Rattle.service_writer.specs.Writing.{faultOf}
+use Rattle.service_writer.specs.Fault.{faultOf}
 use Rattle.records.specs.Service.{serviceSize, serviceRecord, serviceAt}
 
 -- the answer to read parameters: whether they are good, their number, their record

@@ -2,7 +2,7 @@
 use crate::answers;
 use services::Answer;
 ghost use Rattle.services.specs.Reading.{readService};
-ghost use Rattle.service_writer.specs.Writing.{octetsOf};
+ghost use Rattle.service_writer.specs.Layout.{octetsOf};
 ghost use Rattle.records.specs.Service.{serviceAt};
 ghost use Rattle.hitchbarley.specs.Answers.{Fills, Writes};
 ghost use Rattle.hitchbarley.specs.Services.{serviceGood, serviceNumber, serviceOctets, serviceFault};

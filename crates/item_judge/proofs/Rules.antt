@@ -10,7 +10,7 @@ use borrow.Author.Tests.{le-leb, leb-true, leb-false, eqb-true, eqb-false, ne-eq
 use Rattle.octets.specs.Choice.{by-test}
 use Rattle.octets.specs.Has.{has-take}
 use Rattle.tags.specs.Types.{least, most}
-use Rattle.tags.specs.Head.{contentsAt}
+use Rattle.tags.specs.Reading.{contentsAt}
 use Rattle.tags.specs.Layout.{goodContents}
 use Rattle.tags.proofs.Bounds.{contents-in}
 use Rattle.tags.proofs.Rule.{contents-exact}

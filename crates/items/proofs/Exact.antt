@@ -12,7 +12,7 @@ use Rattle.octets.specs.Reading.{Octets}
 use Rattle.octets.specs.Has.{Has, has-bound, has-append, has-left, has-right, has-all, all-has, has-cut}
 use Rattle.octets.specs.Exact.{Exactly}
 use Rattle.tags.specs.Types.{longest}
-use Rattle.tags.specs.Head.{headAt}
+use Rattle.tags.specs.Reading.{headAt}
 use Rattle.tags.specs.Layout.{Thing, Good, encode, Valid, tagOf, tagLength}
 use Rattle.tags.specs.Layout.Thing.{application, boolean, context, opening, closing}
 use Rattle.tags.specs.declared.Tag.{Tag}

@@ -3,7 +3,7 @@ use mathlib.Core.Path.{_≡_, refl}
 use mathlib.Core.List.{[], _∷_}
 use Rattle.octets.specs.Numbers.{valueAt}
 use Rattle.tags.specs.Types.{least, most}
-use Rattle.tags.specs.Head.{headAt, numberAt, lengthAt, twoAt, fourAt, firstRule, firstContent, contentsAt, wholeAt, signBad, signedAt, contextAt, applicationAt}
+use Rattle.tags.specs.Reading.{headAt, numberAt, lengthAt, twoAt, fourAt, firstRule, firstContent, contentsAt, wholeAt, signBad, signedAt, contextAt, applicationAt}
 use Rattle.tags.specs.Signed.{signedValue}
 use Rattle.tags.specs.Signed.Whole.{minus}
 use Rattle.items.specs.Records.{rec}

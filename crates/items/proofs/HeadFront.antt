@@ -12,7 +12,7 @@ use Rattle.octets.specs.Choice.{pick, by-test}
 use Rattle.octets.specs.Reading.{oct, refuse}
 use Rattle.octets.specs.Front.{Front, front-same, front-pick, front-octet, front-reach, front-within, front-long}
 use Rattle.tags.specs.Types.{least, most}
-use Rattle.tags.specs.Head.{andThen, numberAt, twoAt, fourAt, lengthAt, firstRule, firstContent, wholeAt, signBad, signedAt, contentsAt, contextAt, applicationAt, headAt}
+use Rattle.tags.specs.Reading.{andThen, numberAt, twoAt, fourAt, lengthAt, firstRule, firstContent, wholeAt, signBad, signedAt, contentsAt, contextAt, applicationAt, headAt}
 use Rattle.tags.specs.declared.Field.{Field}
 use Rattle.tags.specs.declared.Field.the-variants.{Is, Bad}
 use Rattle.tags.specs.declared.Tag.{Tag}

@@ -11,7 +11,7 @@ use borrow.Author.Tests.{leb-true, leb-false, ltb-true, ltb-false, lt-leb, le-le
 use Rattle.octets.specs.Choice.{pick, pick-two, by-test}
 use Rattle.octets.specs.Reading.{oct, be16}
 use Rattle.tags.specs.Types.{least, most, longest}
-use Rattle.tags.specs.Head.{andThen, numberAt, twoAt, fourAt, lengthAt, firstRule, wholeAt, signedAt, contentsAt, contextAt, applicationAt, headAt}
+use Rattle.tags.specs.Reading.{andThen, numberAt, twoAt, fourAt, lengthAt, firstRule, wholeAt, signedAt, contentsAt, contextAt, applicationAt, headAt}
 use Rattle.tags.specs.declared.Field.{Field}
 use Rattle.tags.specs.declared.Field.the-variants.{Is, Bad}
 use Rattle.tags.specs.declared.Tag.{Tag}

@@ -6,7 +6,7 @@ use mathlib.Core.List.{List, [], _∷_, _++_, append-assoc}
 use lib.ListN.{length}
 use borrow.Author.Tests.{lt-leb, le-leb}
 use Rattle.octets.specs.Choice.{impossible}
-use Rattle.tags.specs.Head.{headAt}
+use Rattle.tags.specs.Reading.{headAt}
 use Rattle.items.specs.Records.{Rec}
 use Rattle.items.specs.Reading.{Out, more, ending, step, walk, within}
 use Rattle.items.specs.Reading.Out.{good, bad}

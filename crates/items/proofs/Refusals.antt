@@ -6,7 +6,7 @@ use lib.ListN.{length}
 use lib.Dec.{ltb, leb, eqb}
 use Rattle.octets.specs.Choice.{pick-case}
 use Rattle.tags.specs.Types.{longest}
-use Rattle.tags.specs.Head.{headAt}
+use Rattle.tags.specs.Reading.{headAt}
 use Rattle.tags.specs.declared.Tag.{Tag}
 use Rattle.tags.specs.declared.Tag.the-variants.{Item, Opening, Closing, Refused}
 use Rattle.tags.proofs.Refusals.{TagHas, refusals-have}

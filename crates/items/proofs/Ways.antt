@@ -7,7 +7,7 @@ use lib.ListN.{length, set, length-set}
 use mir.Syntax.{w64}
 use mir.Val.{Fits}
 use Rattle.tags.specs.Types.{longest}
-use Rattle.tags.specs.Head.{headAt}
+use Rattle.tags.specs.Reading.{headAt}
 use Rattle.tags.specs.declared.Tag.{Tag}
 use Rattle.tags.specs.declared.Tag.the-variants.{Item, Opening, Closing}
 use Rattle.tags.proofs.Bounds.{TagIn}

@@ -7,7 +7,7 @@ use lib.Dec.{leb}
 use Rattle.octets.specs.Choice.{pick}
 use Rattle.octets.specs.Reading.{reach, refuse}
 use Rattle.octets.specs.Splice.{splice}
-use Rattle.tags.specs.Head.{headAt}
+use Rattle.tags.specs.Reading.{headAt}
 use Rattle.tags.specs.declared.Tag.the-variants.{Closing}
 use Rattle.items.specs.Records.{Rec, recordOctets}
 use Rattle.items.specs.Reading.{Out, more, step, mostItems, itemsOf, counted}

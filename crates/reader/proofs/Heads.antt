@@ -4,7 +4,7 @@ use mathlib.Core.Path.{_≡_}
 use mathlib.Core.List.{List}
 use lib.ListN.{length}
 use borrow.Author.Tests.{lt-leb, le-leb}
-use Rattle.tags.specs.Head.{headAt}
+use Rattle.tags.specs.Reading.{headAt}
 use Rattle.tags.specs.declared.Tag.{Tag}
 use Rattle.items.specs.Reading.{itemAt, step, closes, endOf}
 use Rattle.items.specs.declared.One.{One}

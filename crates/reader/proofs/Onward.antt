@@ -6,7 +6,7 @@ use lib.ListN.{length}
 use lib.Dec.{leb}
 use borrow.Author.Tests.{leb-true, leb-false}
 use Rattle.octets.specs.Choice.{pick-cases}
-use Rattle.tags.specs.Head.{headAt}
+use Rattle.tags.specs.Reading.{headAt}
 use Rattle.tags.specs.declared.Tag.{Tag}
 use Rattle.items.specs.Records.{Rec}
 use Rattle.items.specs.Reading.{Out, itemAt, endOf}

@@ -9,7 +9,7 @@ use lib.Seq.{take-length}
 use borrow.Author.Tests.{lt-ltb, le-ltb, ne-eqb}
 use Rattle.octets.specs.Splice.{splice, splice-then, splice-inside}
 use Rattle.tags.specs.Types.{longest}
-use Rattle.tags.specs.Head.{headAt}
+use Rattle.tags.specs.Reading.{headAt}
 use Rattle.tags.specs.declared.Tag.the-variants.{Item}
 use Rattle.items.specs.Reading.{walk}
 use Rattle.service_writer.specs.declared.judge.Phase.the-variants.{Inside}

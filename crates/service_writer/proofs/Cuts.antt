@@ -10,7 +10,7 @@ use borrow.Author.Tests.{lt-ltb, le-ltb, lt-leb, ltb-true, ltb-false, eqb-true, 
 use Rattle.octets.specs.Choice.{pick, pick-so, pick-two, by-test, impossible}
 use Rattle.octets.specs.Reading.{oct, be16}
 use Rattle.tags.specs.Types.{longest, least, most}
-use Rattle.tags.specs.Head.{andThen, numberAt, twoAt, fourAt, lengthAt, firstRule, firstContent, wholeAt, signBad, signedAt, contentsAt, contextAt, applicationAt, headAt}
+use Rattle.tags.specs.Reading.{andThen, numberAt, twoAt, fourAt, lengthAt, firstRule, firstContent, wholeAt, signBad, signedAt, contentsAt, contextAt, applicationAt, headAt}
 use Rattle.tags.specs.declared.Tag.{Tag}
 use Rattle.tags.specs.declared.Tag.the-variants.{Item, Opening, Closing, Refused}
 use Rattle.tags.proofs.Refusals.{first-rule, first-content}

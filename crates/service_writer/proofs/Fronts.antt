@@ -30,7 +30,8 @@ use Rattle.services.specs.declared.Service.{Service}
 use Rattle.services.specs.declared.Target.{Target}
 use Rattle.services.proofs.Things.{Here}
 use Rattle.services.proofs.Pointed.{targetOf, target-reads}
-use Rattle.service_writer.specs.Writing.{ranked, frontOf, behindOf, roomOf, refusalOf, readFault}
+use Rattle.service_writer.specs.Layout.{ranked, frontOf, behindOf, roomOf}
+use Rattle.service_writer.specs.Fault.{refusalOf, readFault}
 use Rattle.service_writer.specs.declared.judge.Phase.the-variants.{Inside, Behind, Done, Wrong}
 use Rattle.service_writer.specs.Judging.{shutOf, rankOf, phaseAfter, phaseFault, leftFault, outFault}
 use Rattle.service_writer.proofs.Items.{ranked-parts}

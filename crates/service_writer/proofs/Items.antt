@@ -23,7 +23,8 @@ use Rattle.services.specs.declared.WhoIs.{WhoIs}
 use Rattle.services.specs.declared.IAm.{IAm}
 use Rattle.services.specs.declared.Fault.{Fault}
 use Rattle.services.specs.declared.Target.{Target}
-use Rattle.service_writer.specs.Writing.{numberItem, grouped, ranked, frontOf, behindOf, wideTarget, Put}
+use Rattle.service_writer.specs.Layout.{numberItem, grouped, ranked, frontOf, behindOf, Put}
+use Rattle.service_writer.specs.Fault.{wideTarget}
 
 -- the last octets of four
 pub last-digits : (v w : ℕ) → 1 ≤ w → w ≤ 4 → drop (4 - w) (digits 4 v) ≡ digits w v

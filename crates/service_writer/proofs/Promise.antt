@@ -24,7 +24,8 @@ use Rattle.services.specs.declared.ReadAck.{ReadAck}
 use Rattle.services.specs.declared.WriteRequest.{WriteRequest}
 use Rattle.services.specs.declared.Target.{Target}
 use Rattle.services.proofs.Refusals.{AnswerHas, read-has}
-use Rattle.service_writer.specs.Writing.{kindOf, choiceOf, ranked, frontOf, behindOf, roomOf, octetsOf, wideTarget, tooWide, refusalOf, readFault, faultOf, rankedFault}
+use Rattle.service_writer.specs.Layout.{kindOf, choiceOf, ranked, frontOf, behindOf, roomOf, octetsOf}
+use Rattle.service_writer.specs.Fault.{wideTarget, tooWide, refusalOf, readFault, faultOf, rankedFault}
 use Rattle.service_writer.specs.declared.judge.Phase.the-variants.{Inside}
 use Rattle.service_writer.specs.Judging.{outFault}
 use Rattle.service_writer.proofs.Items.{not-wide, ranked-length, ranked-parts}

@@ -18,7 +18,8 @@ use Rattle.services.specs.declared.Target.{Target}
 use Rattle.services.proofs.Things.{encode-append}
 use Rattle.services.proofs.Layouts.{ValueStands}
 use Rattle.services.proofs.Exact.{accepted, exactly}
-use Rattle.service_writer.specs.Writing.{kindOf, choiceOf, grouped, ranked, octetsOf, wideTarget, tooWide, refusalOf, faultOf, valueIn}
+use Rattle.service_writer.specs.Layout.{kindOf, choiceOf, grouped, ranked, octetsOf, valueIn}
+use Rattle.service_writer.specs.Fault.{wideTarget, tooWide, refusalOf, faultOf}
 
 -- a value of items is laid as the message's
 grouped-items : (ts : List Thing) → grouped (encodeAll ts) ≡ encodeAll (valued ts)

@@ -5,7 +5,7 @@ use mathlib.Core.List.{[], _∷_}
 use mathlib.Core.Bool.{Bool, true, false}
 use Rattle.octets.specs.Numbers.{valueAt, digits, widthOf, longForm}
 use Rattle.tags.specs.Types.{least, most}
-use Rattle.tags.specs.Head.{headAt, numberAt, lengthAt, twoAt, fourAt, firstRule, firstContent, contentsAt, wholeAt, signBad, signedAt, contextAt, applicationAt}
+use Rattle.tags.specs.Reading.{headAt, numberAt, lengthAt, twoAt, fourAt, firstRule, firstContent, contentsAt, wholeAt, signBad, signedAt, contextAt, applicationAt}
 use Rattle.tags.specs.Layout.{encode, highBits, numberOctets, lowBits, lengthOctets}
 use Rattle.items.specs.Grammar.{encodeAll}
 use Rattle.items.specs.Reading.{more, ending, closes, step, walk, itemsOf}
@@ -16,7 +16,8 @@ use Rattle.services.specs.Shows.{messageOf}
 use Rattle.services.specs.declared.Service.{Service}
 use Rattle.services.specs.declared.Service.the-variants.{ReadProperty, ReadPropertyAck, WriteProperty, WhoIs, IAm}
 use Rattle.services.specs.declared.Target.{Target}
-use Rattle.service_writer.specs.Writing.{grouped, ranked, octetsOf, wideTarget, tooWide, refusalOf, faultOf}
+use Rattle.service_writer.specs.Layout.{grouped, ranked, octetsOf}
+use Rattle.service_writer.specs.Fault.{wideTarget, tooWide, refusalOf, faultOf}
 
 -- analog input 5, property 85, and an index that is not there
 abbrev target : ℕ → Target

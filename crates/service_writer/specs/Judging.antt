@@ -8,7 +8,7 @@ use lib.Dec.{ltb, eqb}
 use Rattle.octets.specs.Choice.{pick, both}
 use Rattle.octets.specs.Reading.{oct, be16}
 use Rattle.tags.specs.Types.{longest}
-use Rattle.tags.specs.Head.{headAt}
+use Rattle.tags.specs.Reading.{headAt}
 use Rattle.tags.specs.declared.Tag.{Tag}
 use Rattle.tags.specs.declared.Tag.the-variants.{Item, Opening, Closing}
 use Rattle.items.specs.Records.{Rec, rec}

@@ -1,2 +1,3 @@
-pub mod Writing
+pub mod Layout
+pub mod Fault
 pub mod Judging

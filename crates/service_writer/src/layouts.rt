@@ -15,7 +15,8 @@ ghost use Rattle.items.specs.Grammar.{encodeAll};
 ghost use Rattle.services.specs.Reading.{lastInstance};
 ghost use Rattle.services.specs.Layout.{shortest, pointed, encode};
 ghost use Rattle.services.specs.Shows.{pointedOf, messageOf};
-ghost use Rattle.service_writer.specs.Writing.{numberItem, frontOf, behindOf, wideTarget, Put};
+ghost use Rattle.service_writer.specs.Layout.{numberItem, frontOf, behindOf, Put};
+ghost use Rattle.service_writer.specs.Fault.{wideTarget};
 
 // The octets that a number takes.
 fn width(v: u32) -> usize

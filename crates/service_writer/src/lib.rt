@@ -15,7 +15,8 @@ ghost use lib.ListN.{length};
 ghost use Prim.Native.Nat.{_+_, _≤_};
 ghost use Rattle.octets.specs.Laid.{Laid};
 ghost use Rattle.tags.specs.Types.{longest};
-ghost use Rattle.service_writer.specs.Writing.{roomOf, wideTarget, readFault, ranked, rankedFault, octetsOf, faultOf};
+ghost use Rattle.service_writer.specs.Layout.{roomOf, ranked, octetsOf};
+ghost use Rattle.service_writer.specs.Fault.{wideTarget, readFault, rankedFault, faultOf};
 
 // The service with the value's octets, from the area's first octet. A service without a value does not look at them, and none looks at the span inside it.
 pub fn write(v: Service, value: &[u8], out: &mut [u8]) -> Written

@@ -11,7 +11,7 @@ use Rattle.octets.specs.Choice.{pick, both, pick-not, pick-so, by-test, both-tr
 use Rattle.octets.specs.Reading.{oct, Octets}
 use Rattle.octets.specs.Numbers.{valueAt, longForm}
 use Rattle.tags.specs.Types.{least, most}
-use Rattle.tags.specs.Head.{headAt}
+use Rattle.tags.specs.Reading.{headAt}
 use Rattle.tags.specs.Layout.{Thing, Valid, Good, tagOf}
 use Rattle.tags.specs.Layout.Thing.{application, boolean, context, opening, closing}
 use Rattle.tags.specs.declared.Tag.{Tag}

@@ -11,7 +11,7 @@ use mir.Val.{Fits, bits}
 use borrow.Author.Tests.{lt-ltb, le-ltb, eq-eqb, ne-eqb, ltb-true}
 use Rattle.octets.specs.Reading.{oct}
 use Rattle.octets.specs.Numbers.{valueAt, longForm}
-use Rattle.tags.specs.Head.{headAt}
+use Rattle.tags.specs.Reading.{headAt}
 use Rattle.tags.specs.declared.Tag.{Tag}
 use Rattle.tags.specs.declared.Tag.the-variants.{Item, Opening, Closing}
 use Rattle.items.specs.Records.{Rec, rec}

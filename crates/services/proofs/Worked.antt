@@ -5,7 +5,7 @@ use mathlib.Core.List.{List, [], _∷_, _++_}
 use mathlib.Core.Bool.{Bool, true, false}
 use Rattle.octets.specs.Numbers.{valueAt, longForm}
 use Rattle.tags.specs.Types.{least, most}
-use Rattle.tags.specs.Head.{headAt, numberAt, lengthAt, twoAt, fourAt, firstRule, firstContent, contentsAt, wholeAt, signBad, signedAt, contextAt, applicationAt}
+use Rattle.tags.specs.Reading.{headAt, numberAt, lengthAt, twoAt, fourAt, firstRule, firstContent, contentsAt, wholeAt, signBad, signedAt, contextAt, applicationAt}
 use Rattle.items.specs.Reading.{more, ending, closes, step, walk, itemsOf}
 use Rattle.services.specs.Parts.{present, wanted, numberRule, objectRule, optionalNumber, afterGroup, group, last}
 use Rattle.services.specs.Reading.{targetParts, readProperty, readPropertyAck, writeProperty, whoIs, deviceRule, iAm, errorOf, layoutFor, readService}

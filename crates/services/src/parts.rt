@@ -8,7 +8,7 @@ use tags::Tag;
 ghost use mathlib.Core.Path.{_≡_};
 ghost use Prim.Native.Nat.{_+_, _≤_};
 ghost use lib.ListN.{length};
-ghost use Rattle.tags.specs.Head.{headAt};
+ghost use Rattle.tags.specs.Reading.{headAt};
 ghost use Rattle.items.specs.Records.{rec};
 ghost use Rattle.services.specs.Parts.{present, wanted, numberRule, numberOf, contextObject, group, last};
 ghost use Rattle.services.specs.Reading.{deviceRule};

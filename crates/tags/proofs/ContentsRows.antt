@@ -11,7 +11,7 @@ use borrow.Author.Tests.{ltb-true, ltb-false, leb-true, leb-false, eqb-true, eqb
 use Rattle.octets.specs.Choice.{pick, pick-cases, by-test, not-so}
 use Rattle.octets.specs.Reading.{oct}
 use Rattle.tags.specs.Types.{least}
-use Rattle.tags.specs.Head.{firstContent, wholeAt, signBad, signedAt, contentsAt}
+use Rattle.tags.specs.Reading.{firstContent, wholeAt, signBad, signedAt, contentsAt}
 use Rattle.tags.specs.Rows.{Broken}
 use Rattle.tags.specs.Rows.Broken.{leading-zero, sign-again, unknown-set, unused-over, unused-alone}
 use Rattle.tags.proofs.Bounds.{contents-in}

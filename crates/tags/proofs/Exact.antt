@@ -12,7 +12,7 @@ use Rattle.octets.specs.Choice.{pick-cases, by-test, both, both-true}
 use Rattle.octets.specs.Reading.{oct, Octets}
 use Rattle.octets.specs.Has.{Has, has-bound, has-append, has-left, has-right, has-take}
 use Rattle.tags.specs.Types.{longest, least, most}
-use Rattle.tags.specs.Head.{numberAt, lengthAt, firstRule, contentsAt, contextAt, applicationAt, headAt}
+use Rattle.tags.specs.Reading.{numberAt, lengthAt, firstRule, contentsAt, contextAt, applicationAt, headAt}
 use Rattle.tags.specs.Layout.{Thing, highBits, numberOctets, lowBits, lengthOctets, encode, Application, Valid, goodContents, tagLength, contentsOf, tagOf, Good, Stands}
 use Rattle.tags.specs.Layout.Thing.{application, boolean, context, opening, closing}
 use Rattle.tags.specs.declared.Tag.{Tag}

@@ -12,7 +12,7 @@ use borrow.Author.Tests.{ltb-true, ltb-false, leb-true, leb-false, eqb-true, eqb
 use Rattle.octets.specs.Choice.{pick-cases, by-test, non, non-true, impossible}
 use Rattle.octets.specs.Reading.{oct, Octets}
 use Rattle.octets.specs.Numbers.{valueAt, widthOf, longForm, value-below, value-same, short-form, long-form}
-use Rattle.tags.specs.Head.{signBad}
+use Rattle.tags.specs.Reading.{signBad}
 use Rattle.tags.specs.Layout.{shortUnsigned, shortSigned}
 use Rattle.tags.specs.Signed.{Whole, signedValue}
 use Rattle.tags.specs.Signed.Whole.{plus, minus}

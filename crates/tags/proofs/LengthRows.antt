@@ -10,7 +10,7 @@ use Rattle.octets.specs.Choice.{pick, pick-cases, by-test}
 use Rattle.octets.specs.Reading.{oct, be16, Octets}
 use Rattle.octets.specs.Numbers.{valueAt}
 use Rattle.tags.specs.Types.{longest}
-use Rattle.tags.specs.Head.{twoAt, fourAt, lengthAt}
+use Rattle.tags.specs.Reading.{twoAt, fourAt, lengthAt}
 use Rattle.tags.specs.Rows.{Spelled, LengthCut, LengthTo}
 use Rattle.tags.specs.Rows.Spelled.{one-octet, two-octets, four-octets}
 use Rattle.tags.specs.Rows.LengthCut.{cut-first, cut-two, cut-four}

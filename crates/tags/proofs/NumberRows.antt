@@ -9,7 +9,7 @@ use lib.Dec.{ltb, leb, eqb}
 use borrow.Author.Tests.{ltb-true, ltb-false, leb-true, leb-false, eqb-true, eqb-false, lt-ltb, le-ltb, lt-leb, le-leb, ne-eqb}
 use Rattle.octets.specs.Choice.{pick-cases, by-test}
 use Rattle.octets.specs.Reading.{oct, Octets}
-use Rattle.tags.specs.Head.{numberAt, firstRule}
+use Rattle.tags.specs.Reading.{numberAt, firstRule}
 use Rattle.tags.specs.Rows.{numberBits, lengthBits, IsContext, IsApplication, NumberTo}
 use Rattle.tags.specs.Rows.NumberTo.{number-inside, number-next}
 use Rattle.tags.specs.declared.Field.{Field}

@@ -10,7 +10,7 @@ use borrow.Author.Tests.{ltb-true, ltb-false, leb-true, leb-false, eqb-true, eqb
 use Rattle.octets.specs.Choice.{pick, pick-cases, by-test}
 use Rattle.octets.specs.Reading.{oct, Octets}
 use Rattle.tags.specs.Types.{longest, least, most}
-use Rattle.tags.specs.Head.{andThen, numberAt, lengthAt, firstRule, contentsAt, contextAt, applicationAt, headAt}
+use Rattle.tags.specs.Reading.{andThen, numberAt, lengthAt, firstRule, contentsAt, contextAt, applicationAt, headAt}
 use Rattle.tags.specs.Rows.{numberBits, lengthBits, IsContext, BitsFine, NumberTo, LengthCut, LengthTo, TypeTag, ContextTag, Tagged, Early, WrongNumber, NotShortest, WrongLength, WrongContents, Given}
 use Rattle.tags.specs.Rows.NumberTo.{number-inside, number-next}
 use Rattle.tags.specs.Rows.Spelled.{one-octet, two-octets, four-octets}

@@ -10,7 +10,7 @@ use borrow.Author.Tests.{ltb-true, ltb-false, eqb-true, eqb-false, lt-ltb, le-lt
 use Rattle.octets.specs.Choice.{pick, pick-same, by-test, both, non}
 use Rattle.octets.specs.Has.{Has, has-bound}
 use Rattle.tags.specs.Types.{least}
-use Rattle.tags.specs.Head.{firstContent, wholeAt, signBad, signedAt, contentsAt}
+use Rattle.tags.specs.Reading.{firstContent, wholeAt, signBad, signedAt, contentsAt}
 use Rattle.tags.specs.Layout.{goodContents}
 
 -- contents that stand there are all there

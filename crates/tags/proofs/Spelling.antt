@@ -11,7 +11,7 @@ use Rattle.octets.specs.Choice.{pick-cases, by-test}
 use Rattle.octets.specs.Reading.{oct, be16, Octets}
 use Rattle.octets.specs.Has.{Has}
 use Rattle.tags.specs.Types.{longest}
-use Rattle.tags.specs.Head.{numberAt, twoAt, fourAt, lengthAt}
+use Rattle.tags.specs.Reading.{numberAt, twoAt, fourAt, lengthAt}
 use Rattle.tags.specs.Layout.{highBits, numberOctets, lowBits, lengthOctets}
 use Rattle.tags.specs.declared.Field.{Field}
 use Rattle.tags.specs.declared.Field.the-variants.{Is, Bad}

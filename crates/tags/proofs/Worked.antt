@@ -3,7 +3,7 @@ use mathlib.Core.Path.{_≡_, refl}
 use mathlib.Core.List.{[], _∷_}
 use Rattle.octets.specs.Numbers.{valueAt}
 use Rattle.tags.specs.Types.{least, most}
-use Rattle.tags.specs.Head.{numberAt, twoAt, fourAt, lengthAt, firstRule, firstContent, wholeAt, signBad, signedAt, contentsAt, contextAt, applicationAt, headAt}
+use Rattle.tags.specs.Reading.{numberAt, twoAt, fourAt, lengthAt, firstRule, firstContent, wholeAt, signBad, signedAt, contentsAt, contextAt, applicationAt, headAt}
 use Rattle.tags.specs.Signed.{signedValue}
 use Rattle.tags.specs.Signed.Whole.{minus}
 use Rattle.tags.specs.declared.Tag.the-variants.{Item, Opening, Closing, Refused}

@@ -1,5 +1,5 @@
 pub mod Types
-pub mod Head
+pub mod Reading
 pub mod Layout
 pub mod Decide
 pub mod Signed

@@ -3,7 +3,7 @@ ghost use mathlib.Core.Path.{_≡_};
 ghost use Prim.Native.Nat.{_≤_, _<_};
 ghost use lib.ListN.{length};
 ghost use Rattle.tags.specs.Types.{least, most};
-ghost use Rattle.tags.specs.Head.{firstContent, wholeAt, signBad, signedAt, contentsAt};
+ghost use Rattle.tags.specs.Reading.{firstContent, wholeAt, signBad, signedAt, contentsAt};
 
 // Null, boolean (no contents), unsigned, signed, real, double, octets, characters, bits, enumerated, date, time, object.
 const LEAST: [usize; 13] = [0, 0, 1, 1, 4, 8, 0, 1, 1, 1, 4, 4, 4];

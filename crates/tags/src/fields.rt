@@ -1,7 +1,7 @@
 // The number and the length of a tag, in the tag octet or after it.
 use crate::Field;
 ghost use mathlib.Core.Path.{_≡_};
-ghost use Rattle.tags.specs.Head.{numberAt, twoAt, fourAt, lengthAt};
+ghost use Rattle.tags.specs.Reading.{numberAt, twoAt, fourAt, lengthAt};
 
 // The number: 0 to 14 in the tag octet, or 15 to 254 in the next.
 pub fn number(s: &[u8], at: usize) -> Field

@@ -6,7 +6,7 @@ use crate::contents::high;
 use crate::contents::low;
 use crate::fields::length;
 ghost use mathlib.Core.Path.{_≡_};
-ghost use Rattle.tags.specs.Head.{firstRule, contextAt, applicationAt};
+ghost use Rattle.tags.specs.Reading.{firstRule, contextAt, applicationAt};
 
 // What the tag octet alone breaks: 31, 32, or 0 where nothing.
 pub fn first_rule(b: u8) -> u8

@@ -5,7 +5,7 @@ mod kinds;
 
 ghost use mathlib.Core.Path.{_≡_};
 ghost use Prim.Native.Nat.{ℕ};
-ghost use Rattle.tags.specs.Head.{headAt};
+ghost use Rattle.tags.specs.Reading.{headAt};
 
 // A field of a tag: its value and the place after it, or the number of its refusal.
 pub enum Field {

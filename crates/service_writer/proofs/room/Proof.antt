@@ -1,4 +1,4 @@
-use Rattle.service_writer.specs.Writing.{roomOf}
+use Rattle.service_writer.specs.Layout.{roomOf}
 use Rattle.octets.specs.Rules.{tests}
 use borrow.Author.Needs.{needs}
 use Rattle.service_writer.proofs.room.Statement.{statement}

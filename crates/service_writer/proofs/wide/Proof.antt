@@ -1,4 +1,4 @@
-use Rattle.service_writer.specs.Writing.{wideTarget}
+use Rattle.service_writer.specs.Fault.{wideTarget}
 use borrow.Author.Needs.{needs}
 use Rattle.octets.specs.Rules.{tests}
 use Rattle.service_writer.proofs.wide.Statement.{statement}

@@ -1,4 +1,4 @@
-use Rattle.service_writer.specs.Writing.{octetsOf}
+use Rattle.service_writer.specs.Layout.{octetsOf}
 use mathlib.Core.Path.{refl}
 use Rattle.service_writer.proofs.Promise
 use borrow.Author.Needs.{needs}

@@ -1,5 +1,6 @@
 use Rattle.services.specs.declared.Service.{Service}
-use Rattle.service_writer.specs.Writing.{octetsOf, tooWide}
+use Rattle.service_writer.specs.Layout.{octetsOf}
+use Rattle.service_writer.specs.Fault.{tooWide}
 use Rattle.service_writer.proofs.Promise
 use mathlib.Core.Path.{refl}
 use native.Mathlib.Omega.{arith}

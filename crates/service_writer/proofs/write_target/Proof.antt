@@ -1,7 +1,8 @@
 use Rattle.services.specs.Layout.{thingsOfMessage}
 use Rattle.services.specs.Shows.{messageOf}
 use Rattle.services.specs.declared.Service.{Service}
-use Rattle.service_writer.specs.Writing.{octetsOf, tooWide}
+use Rattle.service_writer.specs.Layout.{octetsOf}
+use Rattle.service_writer.specs.Fault.{tooWide}
 use Rattle.service_writer.proofs.Promise
 use mathlib.Core.Path.{sym, _∙_}
 use native.Mathlib.Omega.{arith}

@@ -1,6 +1,6 @@
 use borrow.Author.Needs.{needs}
 use Rattle.octets.specs.Rules.{tests}
-use Rattle.tags.specs.Head.{contentsAt}
+use Rattle.tags.specs.Reading.{contentsAt}
 use Rattle.tags.proofs.contents.contents.Statement.{statement}
 use Rattle.tags.proofs.contents.contents.Tie as tie
 

@@ -1,6 +1,6 @@
 use borrow.Author.Needs.{needs}
 use Rattle.octets.specs.Rules.{tests}
-use Rattle.tags.specs.Head.{firstContent}
+use Rattle.tags.specs.Reading.{firstContent}
 use Rattle.tags.proofs.contents.first_content.Statement.{statement}
 use Rattle.tags.proofs.contents.first_content.Tie as tie
 

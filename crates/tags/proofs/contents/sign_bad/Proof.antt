@@ -1,6 +1,6 @@
 use borrow.Author.Needs.{needs}
 use Rattle.octets.specs.Rules.{tests}
-use Rattle.tags.specs.Head.{signBad}
+use Rattle.tags.specs.Reading.{signBad}
 use Rattle.tags.proofs.contents.sign_bad.Statement.{statement}
 use Rattle.tags.proofs.contents.sign_bad.Tie as tie
 

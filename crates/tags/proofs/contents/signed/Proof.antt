@@ -1,7 +1,7 @@
 use mathlib.Core.Path.{sym, _∙_}
 use borrow.Author.Needs.{needs}
 use Rattle.octets.specs.Rules.{tests}
-use Rattle.tags.specs.Head.{signedAt}
+use Rattle.tags.specs.Reading.{signedAt}
 use Rattle.tags.proofs.contents.signed.Statement.{statement}
 use Rattle.tags.proofs.contents.signed.Tie as tie
 

@@ -1,6 +1,6 @@
 use borrow.Author.Needs.{needs}
 use Rattle.octets.specs.Rules.{tests}
-use Rattle.tags.specs.Head.{wholeAt}
+use Rattle.tags.specs.Reading.{wholeAt}
 use Rattle.tags.proofs.contents.whole.Statement.{statement}
 use Rattle.tags.proofs.contents.whole.Tie as tie
 

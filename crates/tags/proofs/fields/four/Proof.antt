@@ -1,6 +1,6 @@
 use borrow.Author.Needs.{needs}
 use Rattle.octets.specs.Rules.{tests}
-use Rattle.tags.specs.Head.{fourAt}
+use Rattle.tags.specs.Reading.{fourAt}
 use Rattle.tags.proofs.fields.four.Statement.{statement}
 use Rattle.tags.proofs.fields.four.Tie as tie
 

@@ -1,6 +1,6 @@
 use borrow.Author.Needs.{needs}
 use Rattle.octets.specs.Rules.{tests}
-use Rattle.tags.specs.Head.{lengthAt}
+use Rattle.tags.specs.Reading.{lengthAt}
 use Rattle.tags.proofs.fields.length.Statement.{statement}
 use Rattle.tags.proofs.fields.length.Tie as tie
 

@@ -1,6 +1,6 @@
 use borrow.Author.Needs.{needs}
 use Rattle.octets.specs.Rules.{tests}
-use Rattle.tags.specs.Head.{numberAt}
+use Rattle.tags.specs.Reading.{numberAt}
 use Rattle.tags.proofs.fields.number.Statement.{statement}
 use Rattle.tags.proofs.fields.number.Tie as tie
 

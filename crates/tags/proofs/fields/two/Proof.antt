@@ -1,6 +1,6 @@
 use borrow.Author.Needs.{needs}
 use Rattle.octets.specs.Rules.{tests}
-use Rattle.tags.specs.Head.{twoAt}
+use Rattle.tags.specs.Reading.{twoAt}
 use Rattle.tags.proofs.fields.two.Statement.{statement}
 use Rattle.tags.proofs.fields.two.Tie as tie
 

@@ -2,7 +2,7 @@ use borrow.Author.Tests.{le-ltb, ne-eqb}
 use mathlib.Core.Path.{sym, _∙_}
 use borrow.Author.Needs.{needs}
 use Rattle.octets.specs.Rules.{tests}
-use Rattle.tags.specs.Head.{applicationAt}
+use Rattle.tags.specs.Reading.{applicationAt}
 use Rattle.tags.proofs.kinds.application.Statement.{statement}
 use Rattle.tags.proofs.kinds.application.Tie as tie
 

@@ -1,7 +1,7 @@
 use mathlib.Core.Path.{sym, _∙_}
 use borrow.Author.Needs.{needs}
 use Rattle.octets.specs.Rules.{tests}
-use Rattle.tags.specs.Head.{contextAt}
+use Rattle.tags.specs.Reading.{contextAt}
 use Rattle.tags.proofs.kinds.context.Statement.{statement}
 use Rattle.tags.proofs.kinds.context.Tie as tie
 

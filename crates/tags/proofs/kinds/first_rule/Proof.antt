@@ -1,6 +1,6 @@
 use borrow.Author.Needs.{needs}
 use Rattle.octets.specs.Rules.{tests}
-use Rattle.tags.specs.Head.{firstRule}
+use Rattle.tags.specs.Reading.{firstRule}
 use Rattle.tags.proofs.kinds.first_rule.Statement.{statement}
 use Rattle.tags.proofs.kinds.first_rule.Tie as tie
 
