@@ -18,5 +18,6 @@ pub mod Completed
 pub mod CompletedRun
 pub mod Damage
 pub mod Exported
+pub mod OneExported
 pub mod ServicesBack
 pub mod ReportsWorked

@@ -24,7 +24,7 @@ use Rattle.apdu.specs.Fault as HeaderFault
 use Rattle.apdu.specs.declared.Pdu.{Pdu}
 use Rattle.apdu.specs.declared.Answer as Apdu
 use Rattle.items.specs.Grammar as Items
-use Rattle.items.specs.Reading.{itemsOf, counted, itemAt, endOf}
+use Rattle.items.specs.Reading.{itemsOf, counted, oneAt, endOf}
 use Rattle.items.specs.Records.{thingsOf}
 use Rattle.items.specs.Listing.{Listed}
 use Rattle.items.specs.declared.Tally.{Tally}
@@ -159,7 +159,7 @@ pub record Contracts : Type 0 where
       (Listed (now s) (now out) r (now out′))
   pub items-item-at : (κ1 : Lft) (s : RefT (List ℕ)) (at : ℕ) (r : OneItem)
       → Contract (items-item-at-call.Pre (κ1, tt) (s, (at, tt))) (items-item-at-call.Post (κ1, tt) (s, (at, tt)) r (s, (at, tt)))
-      (r ≡ endOf (itemAt (now s) at))
+      (r ≡ endOf (oneAt (now s) at))
   pub items-write : (κ1 κ2 κ3 : Lft) (records source out out′ : RefT (List ℕ)) (r : Written)
       → Contract (items-write-call.Pre (κ1, (κ2, (κ3, tt))) (records, (source, (out, tt)))) (items-write-call.Post (κ1, (κ2, (κ3, tt))) (records, (source, (out, tt))) r (records, (source, (out′, tt))))
       (Laid (writeFault (now records) (now source)) (Items.encodeAll (thingsOf (now source) (recordsIn (now records)))) (now out) r (now out′))

@@ -5,6 +5,7 @@ pub mod Steps
 pub mod Walk
 pub mod RecordOctets
 pub mod Ways
+pub mod Longest
 pub mod Listing
 pub mod Left
 pub mod Exact
