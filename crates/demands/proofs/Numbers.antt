@@ -96,8 +96,8 @@ pub item-numbers : ItemNumbers
 unfolding endOf
 item-numbers s at =
     let one = thirty-nine OneItem.Refused (λ n e. cc) s (endOf (oneAt s at))
-        (λ h. rw (one-over s at h))
-        (λ h n q. item-refused n (itemAt s at) (item-has Row rows s at) (rw (one-within s at h) at q)) in
+    (λ h. rw (one-over s at h))
+    (λ h n q. item-refused n (itemAt s at) (item-has Row rows s at) (rw (one-within s at h) at q)) in
     let step = thirty-nine Step.Refused (λ n e. cc) s (stepOf s at) (step-over s at) (λ h n q. subst StepRow q (at-row s at h)) in
     (one .0, one .1, step .0, step .1)
 

@@ -9,6 +9,8 @@ pub mod Longest
 pub mod Listing
 pub mod Left
 pub mod Exact
+pub mod Closing
+pub mod OneItem
 pub mod Back
 pub mod HeadFront
 pub mod HeadMoved
