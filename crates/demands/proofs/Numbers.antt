@@ -52,9 +52,9 @@ count-refused n (good rs end) h e = impossible (cc)
 count-refused n (bad x) h e = let z : x ≡ n = cc in rw (← z) h
 
 -- 39 first: over 16,384 octets the answer is 39, within them a refusal is one of the rows
-module _ {A : Type 0} (no : ℕ → A) (apart : (n : ℕ) → no n ≡ no 39 → n ≡ 39) (s : List ℕ) (a : A) (over : longest < length s → a ≡ no 39)
-    (within : length s ≤ longest → (n : ℕ) → a ≡ no n → Row n) where
-  thirty-nine : ((n : ℕ) → a ≡ no n → Between 30 39 n) × ((a ≡ no 39) ↔ (longest < length s))
+module _ {A : Type 0} (not : ℕ → A) (apart : (n : ℕ) → not n ≡ not 39 → n ≡ 39) (s : List ℕ) (a : A) (over : longest < length s → a ≡ not 39)
+    (within : length s ≤ longest → (n : ℕ) → a ≡ not n → Row n) where
+  thirty-nine : ((n : ℕ) → a ≡ not n → Between 30 39 n) × ((a ≡ not 39) ↔ (longest < length s))
   thirty-nine =
       by-test (ltb longest (length s))
       (λ t.

@@ -2,3 +2,4 @@ pub mod Heads
 pub mod Ways
 pub mod Walking
 pub mod Onward
+pub mod Exact

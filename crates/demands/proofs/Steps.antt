@@ -1,0 +1,28 @@
+-- One item and the reader's steps: the laws of items and reader, as the page asks for them.
+use Rattle.items.proofs.OneItem as Items
+use Rattle.reader.proofs.Exact.{item-exact, group-exact, end-exact, closing-refused, closing-exact}
+use Rattle.reader.proofs.Walking as Walking
+use Rattle.reader.proofs.Onward as Onward
+use Rattle.demands.specs.Steps.{OneExact, StepsExact, WalkAll, WalkOne, StepOn}
+
+pub one-exact : OneExact
+one-exact = Items.one-exact
+
+pub steps-exact : StepsExact
+steps-exact s os at =
+    record {
+      item = λ k n v p l next. item-exact s at k n v p l next os;
+      group = λ n p next. group-exact s at n p next os;
+      end = end-exact s at;
+      closing = closing-refused s at;
+      closing-alone = closing-exact s at os;
+    }
+
+pub walk-all : WalkAll
+walk-all = Walking.walk-all
+
+pub walk-one : WalkOne
+walk-one = Walking.walk-one
+
+pub step-on : StepOn
+step-on = Onward.step-on
