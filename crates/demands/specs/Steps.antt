@@ -1,7 +1,7 @@
 -- One item with its whole group, and the reader's steps through the parameters: what each answers exactly when, and what a walk meets.
-use Prim.Native.Nat.{ℕ, _≤_}
+use Prim.Native.Nat.{ℕ, _≤_, _<_}
 use mathlib.Core.Path.{_≡_}
-use mathlib.Core.Logic.{_↔_}
+use mathlib.Core.Logic.{_↔_, _⊎_}
 use mathlib.Core.List.{List}
 use lib.ListN.{length}
 use Rattle.octets.specs.Reading.{Octets}
@@ -11,10 +11,11 @@ use Rattle.tags.specs.Layout.{Thing, encode, Valid}
 use Rattle.tags.specs.Layout.Thing.{opening}
 use Rattle.items.specs.Records.{Rec}
 use Rattle.items.specs.Reading.{itemsOf, oneAt}
-use Rattle.items.specs.Reading.Out.{good}
+use Rattle.items.specs.Reading.Out.{good, bad}
 use Rattle.items.specs.OneItem.{StandsOne}
 use Rattle.reader.specs.Reading.{stepOf}
 use Rattle.reader.specs.Stands.{ItemStands, GroupStands, ClosingStands}
+use Rattle.reader.specs.Rows.{Row}
 use Rattle.reader.specs.Walking.{Walk, outermost, Onward}
 use Rattle.reader.specs.declared.Step.the-variants as Step
 
@@ -25,7 +26,7 @@ OneExact = (s : List ℕ) → Octets s → (at : ℕ) (rs : List Rec) (end : ℕ
 
 -- "a reader value that carries the parameter octets and its own place, built over the proved item reader": of at most 16,384 octets a step answers an item exactly
 -- when that item stands at the place, a group exactly when that whole group does, and the end exactly at the end or past it; 35 on a closing tag, and, where no
--- group opens, nowhere else (39: ItemNumbers)
+-- group opens, nowhere else (all other numbers: StepRows)
 pub record StepExact (s : List ℕ) (at : ℕ) : Type 0 where
   pub item : (k n v p l next : ℕ) → (stepOf s at ≡ Step.Item k n v p l next) ↔ ((length s ≤ longest) × ItemStands s at k n v p l next)
   pub group : (n p next : ℕ) → (stepOf s at ≡ Step.Group n p next) ↔ ((length s ≤ longest) × GroupStands s at n p next)
@@ -35,6 +36,20 @@ pub record StepExact (s : List ℕ) (at : ℕ) : Type 0 where
 
 abbrev pub StepsExact : Type 0
 StepsExact = (s : List ℕ) → Octets s → (at : ℕ) → StepExact s at
+
+-- ---- "No. | Given exactly when", of a step and of one item: 39 first; else a good front of the item stands there and behind it what the number's row says.
+-- "a missing octet when it is reached": at the end there is no item for a step, and for one item by itself it ends early
+abbrev pub StepRows : Type 0
+StepRows = (s : List ℕ) → Octets s → (at x : ℕ)
+    → (stepOf s at ≡ Step.Refused x) ↔ (((x ≡ 39) × (longest < length s)) ⊎ ((length s ≤ longest) × (at < length s) × Row s at x))
+
+abbrev pub OneRows : Type 0
+OneRows = (s : List ℕ) → Octets s → (at x : ℕ)
+    → (oneAt s at ≡ bad x) ↔ (((x ≡ 39) × (longest < length s)) ⊎ ((length s ≤ longest) × (((x ≡ 30) × (length s ≤ at)) ⊎ ((at < length s) × Row s at x))))
+
+-- octets meet one row at most
+abbrev pub RowsOne : Type 0
+RowsOne = (s : List ℕ) → Octets s → length s ≤ longest → (at : ℕ) → at < length s → (x y : ℕ) → Row s at x → Row s at y → x ≡ y
 
 -- "Last, plant tools get a reader value": where the parameters read as items, steps from the first octet on meet each item and group that stands in no group,
 -- in order, and then the end; none is refused

@@ -3,3 +3,4 @@ pub mod Ways
 pub mod Walking
 pub mod Onward
 pub mod Exact
+pub mod Rows
