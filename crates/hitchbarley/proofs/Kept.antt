@@ -17,7 +17,9 @@ use Rattle.rebuild.specs.View.{keys, back}
 use Rattle.rebuild.specs.declared.Key.{Key}
 use Rattle.rebuild.specs.declared.Slots.{Slots}
 use Rattle.rebuild.proofs.Seen.{unview-view}
+use Rattle.recordings.specs.Frames.{rules}
 use Rattle.reports.specs.Layout.{reportSize}
+use Rattle.collector.specs.Frame.{bacnet}
 use Rattle.collector.specs.Calls.{passing, sized, box, slotsOf, freshCollector, Answered, feeding, stilling}
 use Rattle.collector.specs.declared.Collector.{Collector}
 use Rattle.collector.proofs.Reached.{keeps, Fair, FairAnswer, feed-fair}
@@ -27,12 +29,12 @@ use Rattle.state.proofs.Whole.{Shaped, fits-shaped}
 use Rattle.state.proofs.Exact.{accepted, loads-only, shaped-loads}
 use Rattle.hitchbarley.specs.Trunk.{stateBy, stateOf, bar, inside, feedBar, feedLeft, silenceBar, silenceLeft, forgotten, forgetLeft, Feeds, Stills, Forgets}
 
--- slots that 59 passes are four
-passing-four : (s : List (Messages.Slot Key)) → passing s ≡ true → length s ≡ 4
-passing-four s p = eqb-true (length s) 4 (both-left _ _ p)
-
 by-shape : (r : Receiver) (s : List (Messages.Slot Key)) → length (r .link .head) ≡ 5 → length (r .store) ≡ 501 → length s ≡ 4 → Shaped (stateBy r s)
 by-shape r s head store four = record { head = head; store = store; four = length-map s back ∙ four }
+
+-- slots that 59 passes are four
+passing-shape : (r : Receiver) (s : List (Messages.Slot Key)) → length (r .link .head) ≡ 5 → length (r .store) ≡ 501 → passing s ≡ true → Shaped (stateBy r s)
+passing-shape r s head store p = by-shape r s head store (eqb-true (length s) 4 (both-left _ _ p))
 
 module _ (c : Collector) (f : Shaped c) where
   -- unmoved
@@ -50,8 +52,9 @@ module _ (c : Collector) (f : Shaped c) where
       (λ p. by-test (soundOf (c .receiver))
       (λ o.
       let F : Fair (c .receiver) (slotsOf c) area = record { receiver = record { left = o; head = f .head; store = f .store }; slots = p; area = z } in
+      let d = box .feed (c .receiver) (slotsOf c) area piece in
       let G = feed-fair F piece in
-      by-shape _ _ (G .receiver .head) (G .receiver .store) (passing-four _ (G .slots)))
+      passing-shape (d .state) (d .slots) (G .receiver .head) (G .receiver .store) (G .slots))
       (λ o. rw (z, p, o) same-shaped))
       (λ p. rw (z, p) same-shaped))
       (λ z. rw z same-shaped)
@@ -76,7 +79,7 @@ module _ (c : Collector) (f : Shaped c) where
   forgotten-shaped n =
       pick-cases (λ (s : List (Messages.Slot Key)). Shaped (stateBy (c .receiver) s)) (passing (slotsOf c))
       (λ p. pick-case (λ (s : List (Messages.Slot Key)). Shaped (stateBy (c .receiver) s)) (soundOf (c .receiver))
-      (by-shape _ _ (f .head) (f .store) (passing-four _ (keeps .free n (slotsOf c) p))) same-shaped)
+      (passing-shape (c .receiver) (rules keys bacnet .free n (slotsOf c)) (f .head) (f .store) (keeps .free n (slotsOf c) p)) same-shaped)
       (λ _. same-shaped)
 
 -- an area that was loaded holds a state
