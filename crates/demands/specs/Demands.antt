@@ -44,7 +44,7 @@ use Rattle.tags.specs.Types.{longest}
 use Rattle.tags.specs.Reading.{headAt}
 use Rattle.tags.specs.Layout as Tags
 use Rattle.items.specs.Grammar as Items
-use Rattle.items.specs.Reading.{itemsOf, counted, oneAt, endOf}
+use Rattle.items.specs.Reading.{itemsOf, counted, itemAt, oneAt, endOf}
 use Rattle.items.specs.Records.{thingsOf}
 use Rattle.items.specs.Listing.{Listed}
 use Rattle.items.specs.declared.Tally.{Tally}
@@ -113,6 +113,7 @@ pub record OneAnswer : Type 0 where
   pub items-count : (s : List ℕ) → One Tally (λ r. r ≡ counted (itemsOf s))
   pub items-list : (s out : List ℕ) → One (Tally × List ℕ) (λ x. Listed s out (x .0) (x .1))
   pub items-item-at : (s : List ℕ) (at : ℕ) → One OneItem (λ r. r ≡ endOf (oneAt s at))
+  pub items-whole-at : (s : List ℕ) (at : ℕ) → One OneItem (λ r. r ≡ endOf (itemAt s at))
   pub items-write : (records source out : List ℕ)
       → One (Written × List ℕ) (λ x. Laid (writeFault records source) (Items.encodeAll (thingsOf source (recordsIn records))) out (x .0) (x .1))
   pub services-read : (kind choice : ℕ) (s : List ℕ) → One ServiceAnswer.Answer (λ r. r ≡ readService kind choice s)
