@@ -2,14 +2,14 @@
 use Prim.Native.Nat.{ℕ, _≤_, _<_}
 use mathlib.Core.Path.{_≡_}
 use mathlib.Core.Logic.{_↔_, _⊎_}
-use mathlib.Core.List.{List}
+use mathlib.Core.List.{List, [], _∷_}
 use lib.ListN.{length}
 use Rattle.octets.specs.Reading.{Octets}
 use Rattle.octets.specs.Has.{Has}
 use Rattle.tags.specs.Types.{longest}
 use Rattle.tags.specs.Layout.{Thing, encode, Valid}
 use Rattle.tags.specs.Layout.Thing.{opening}
-use Rattle.items.specs.Records.{Rec}
+use Rattle.items.specs.Records.{Rec, rec}
 use Rattle.items.specs.Reading.{itemsOf, oneAt}
 use Rattle.items.specs.Reading.Out.{good, bad}
 use Rattle.items.specs.OneItem.{StandsOne}
@@ -21,8 +21,8 @@ use Rattle.reader.specs.declared.Step.the-variants as Step
 
 -- "an opened group holds items, which may be groups, up to its own closing number": of at most 16,384 octets one item is read at a place, with these records and
 -- this end, exactly when one whole item stands there that keeps the grammar, and these are its records and its end
-abbrev pub OneExact : Type 0
-OneExact = (s : List ℕ) → Octets s → (at : ℕ) (rs : List Rec) (end : ℕ) → (oneAt s at ≡ good rs end) ↔ ((length s ≤ longest) × (ts : List Thing) × StandsOne s at ts rs end)
+abbrev pub OneItemExact : Type 0
+OneItemExact = (s : List ℕ) → Octets s → (at : ℕ) (rs : List Rec) (end : ℕ) → (oneAt s at ≡ good rs end) ↔ ((length s ≤ longest) × (ts : List Thing) × StandsOne s at ts rs end)
 
 -- "a reader value that carries the parameter octets and its own place, built over the proved item reader": of at most 16,384 octets a step answers an item exactly
 -- when that item stands at the place, a group exactly when that whole group does, and the end exactly at the end or past it; 35 on a closing tag, and, where no
@@ -43,13 +43,13 @@ abbrev pub StepRows : Type 0
 StepRows = (s : List ℕ) → Octets s → (at x : ℕ)
     → (stepOf s at ≡ Step.Refused x) ↔ (((x ≡ 39) × (longest < length s)) ⊎ ((length s ≤ longest) × (at < length s) × Row s at x))
 
-abbrev pub OneRows : Type 0
-OneRows = (s : List ℕ) → Octets s → (at x : ℕ)
+abbrev pub OneItemRows : Type 0
+OneItemRows = (s : List ℕ) → Octets s → (at x : ℕ)
     → (oneAt s at ≡ bad x) ↔ (((x ≡ 39) × (longest < length s)) ⊎ ((length s ≤ longest) × (((x ≡ 30) × (length s ≤ at)) ⊎ ((at < length s) × Row s at x))))
 
 -- octets meet one row at most
-abbrev pub RowsOne : Type 0
-RowsOne = (s : List ℕ) → Octets s → length s ≤ longest → (at : ℕ) → at < length s → (x y : ℕ) → Row s at x → Row s at y → x ≡ y
+abbrev pub StepOneRow : Type 0
+StepOneRow = (s : List ℕ) → Octets s → length s ≤ longest → (at : ℕ) → at < length s → (x y : ℕ) → Row s at x → Row s at y → x ≡ y
 
 -- "Last, plant tools get a reader value": where the parameters read as items, steps from the first octet on meet each item and group that stands in no group,
 -- in order, and then the end; none is refused
@@ -64,3 +64,20 @@ WalkOne = (s : List ℕ) (at : ℕ) (rs qs : List Rec) → Walk s at rs → Walk
 -- stands, or is 39
 abbrev pub StepOn : Type 0
 StepOn = (s : List ℕ) (at : ℕ) → Onward s at (stepOf s at)
+
+-- ---- worked: "`3E 44 42 39 99 9A 3F`", "`11`", "`3E 4F` 35; `3E` 36" step by step, with a step into the group and steps at the end and past it
+abbrev pub real : List ℕ
+real = 0x3E ∷ 0x44 ∷ 0x42 ∷ 0x39 ∷ 0x99 ∷ 0x9A ∷ 0x3F ∷ []
+
+pub record StepsWorked : Type 0 where
+  pub group : stepOf real 0 ≡ Step.Group 3 1 7
+  pub inside : stepOf real 1 ≡ Step.Item 0 4 0 2 4 6
+  pub its-closing : stepOf real 6 ≡ Step.Refused 35
+  pub ends : stepOf real 7 ≡ Step.End
+  pub past : stepOf real 9 ≡ Step.End
+  pub boolean : stepOf (0x11 ∷ []) 0 ≡ Step.Item 0 1 1 1 0 1
+  pub other-number : stepOf (0x3E ∷ 0x4F ∷ []) 0 ≡ Step.Refused 35
+  pub left-open : stepOf (0x3E ∷ []) 0 ≡ Step.Refused 36
+  pub one : oneAt real 0 ≡ good (rec 2 3 0 0 1 0 ∷ rec 0 4 1 0 2 4 ∷ rec 3 3 0 0 7 0 ∷ []) 7
+  pub one-inside : oneAt real 1 ≡ good (rec 0 4 0 0 2 4 ∷ []) 6
+  pub one-past : oneAt real 7 ≡ bad 30
