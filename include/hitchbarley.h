@@ -73,7 +73,7 @@ enum {
     HB_ITEM_OPEN = 36,     /* end with a group open */
     HB_ITEM_DEPTH = 37,    /* opening with 16 open */
     HB_ITEM_COUNT = 38,    /* a 2,049th item begins */
-    HB_ITEM_OCTETS = 39,   /* over 16,384 parameter octets */
+    HB_ITEM_OCTETS = 39,   /* over 16,384 parameter octets: judged first */
 
     /* services */
     HB_SERVICE_ITEM = 40,   /* next item missing, or of another kind or number */
@@ -175,16 +175,16 @@ uint8_t hb_items_count(const uint8_t *octets, size_t octets_len, size_t *count);
      4 - 7  place of the contents, the octet after the tag     8 - 11  their length, high octet first both */
 uint8_t hb_items_list(const uint8_t *octets, size_t octets_len, uint8_t *listed, size_t listed_len, size_t *count);
 
-/* Walking items: from place 0 hb_item_next or hb_item_step gives the place after one item, and after the whole group where it opens one, until the end. At or
-   past the end hb_item_next is 30 and hb_item_step is 0 with *next 0. A closing tag at the place is 35. To go into a group, step on from the place in its
-   opening's record (octets 4 to 7) until 35: that is its closing. 36 to 38 are of the one item with its group, depth and count beginning at the step's own place;
-   hb_items_count judges all items together, and 39 too. */
+/* Walking items: from place 0 hb_item_next or hb_item_step gives the place after one item, and after the whole group where it opens one, until the end. Both
+   judge 39 first, at the end too. At or past the end hb_item_next is 30 and hb_item_step is 0 with *next 0. A closing tag at the place is 35. To go into a group,
+   step on from the place in its opening's record (octets 4 to 7) until 35: that is its closing. 36 to 38 are of the one item with its group, depth and count
+   beginning at the step's own place; hb_items_count judges all items together. */
 
-/* The place after the item at a place, and after its whole group where it opens one: 0 or 30 to 38. */
+/* The place after the item at a place, and after its whole group where it opens one: 0 or 30 to 39. */
 uint8_t hb_item_next(const uint8_t *octets, size_t octets_len, size_t at, size_t *next);
 
 /* The reader's step, one item with its whole group: the record, at depth 0, of the item or the group's opening at a place, and the place after it: 0, 60
-   or 30 to 38. At the end, and past it, 0 with *next 0 and no record: no step else answers a place of 0. */
+   or 30 to 39. At the end, and past it, 0 with *next 0 and no record: no step else answers a place of 0. */
 uint8_t hb_item_step(const uint8_t *octets, size_t octets_len, size_t at, uint8_t *item, size_t item_len, size_t *next);
 
 /* The octets of the items that records name in a source: 0, 62 or 61; *wrote octets were written. The place of a record with length 0 is not looked at. */

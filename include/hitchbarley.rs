@@ -85,7 +85,7 @@ pub const HB_ITEM_OPEN: u8 = 36;
 pub const HB_ITEM_DEPTH: u8 = 37;
 /// a 2,049th item begins
 pub const HB_ITEM_COUNT: u8 = 38;
-/// over 16,384 parameter octets
+/// over 16,384 parameter octets: judged first, by hb_item_next and hb_item_step too
 pub const HB_ITEM_OCTETS: u8 = 39;
 
 // services

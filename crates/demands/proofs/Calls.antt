@@ -116,6 +116,7 @@ one-answer =
       items-count = λ s. equal _ _;
       items-list = λ s out. listed s out;
       items-item-at = λ s at. equal _ _;
+      items-whole-at = λ s at. equal _ _;
       items-write = λ records source out. laid _ _ out;
       services-read = λ kind choice s. equal _ _;
       services-write = λ v value out. laid _ _ out;

@@ -23,6 +23,7 @@ contracts =
       items-count = λ κ1 s r. itself;
       items-list = λ κ1 κ2 s out out′ r. itself;
       items-item-at = λ κ1 s at r. itself;
+      items-whole-at = λ κ1 s at r. itself;
       items-write = λ κ1 κ2 κ3 records source out out′ r. itself;
       services-read = λ κ1 kind choice s r. itself;
       services-write = λ κ1 κ2 v value out out′ r. itself;

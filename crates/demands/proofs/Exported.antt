@@ -444,16 +444,16 @@ apdu-judges (HeaderIs.Refused n) h =
 pub exported-apdu-read : ExportedApduRead
 exported-apdu-read s fields r next fields′ y = fills-into apduSize _ _ _ _ fields r next fields′ Unit (apdu-judges (readApdu s) (header-numbers s)) y
 
-step-judges : (x : Step) → ((n : ℕ) → x ≡ Step.Refused n → (30 ≤ n) × (n ≤ 38)) → Judges (stepGood x) (stepNumber x) (x ≡ Step.End → ⊥)
+step-judges : (x : Step) → ((n : ℕ) → x ≡ Step.Refused n → (30 ≤ n) × (n ≤ 39)) → Judges (stepGood x) (stepNumber x) (x ≡ Step.End → ⊥)
 step-judges (Step.Item k n v p l to) h = record { not-sixty = λ z. differ 0 60 refl refl z; so = λ g. (refl, λ e. impossible (cc)); not = λ g z e. not-so (sym g) }
 step-judges (Step.Group n p to) h = record { not-sixty = λ z. differ 0 60 refl refl z; so = λ g. (refl, λ e. impossible (cc)); not = λ g z e. not-so (sym g) }
 step-judges Step.End h = record { not-sixty = λ z. differ 0 60 refl refl z; so = λ g. not-so g; not = λ g z e. e refl }
 step-judges (Step.Refused n) h =
     let q = h n refl in
-    record { not-sixty = λ z. below-60 n 38 (q .1) (omega arith) z; so = λ g. not-so g; not = λ g z e. above-0 n 30 (q .0) (omega arith) z }
+    record { not-sixty = λ z. below-60 n 39 (q .1) (omega arith) z; so = λ g. not-so g; not = λ g z e. above-0 n 30 (q .0) (omega arith) z }
 
 pub exported-step : ExportedStep
-exported-step s at item r next item′ y = fills-into 12 _ _ _ _ item r next item′ _ (step-judges (stepOf s at) (λ n. item-numbers s at n .1)) y
+exported-step s at item r next item′ y = fills-into 12 _ _ _ _ item r next item′ _ (step-judges (stepOf s at) (item-numbers s at .2)) y
 
 service-judges : (a : ServiceAnswer) → AnswerHas (λ n. (30 ≤ n) × (n ≤ 43)) a → Judges (serviceGood a) (serviceNumber a) Unit
 service-judges (ServiceIs.Good v) h = record { not-sixty = λ z. differ 0 60 refl refl z; so = λ g. (refl, tt); not = λ g z x. not-so (sym g) }

@@ -13,11 +13,13 @@ pub mod Contracts
 pub mod HeaderRows
 pub mod SegmentRows
 pub mod TagRows
+pub mod Steps
 pub mod StateOctets
 pub mod Completed
 pub mod CompletedRun
 pub mod Damage
 pub mod Exported
+pub mod OneExported
 pub mod ServicesBack
 pub mod ReportsWorked
 pub mod RecordOctets

@@ -2,25 +2,27 @@
 use Prim.Native.Nat.{ℕ, _≤_, _<_}
 use native.Mathlib.Omega.{arith}
 use mathlib.Core.Path.{_≡_, refl, sym, subst, _∙_}
-use mathlib.Core.Logic.{_⊎_, inl, inr}
+use mathlib.Core.Logic.{_⊎_, inl, inr, _↔_}
 use mathlib.Core.List.{List, []}
 use mathlib.Core.Bool.{Bool}
 use lib.ListN.{length}
 use lib.Dec.{ltb, leb, eqb}
-use borrow.Author.Tests.{ltb-true, ltb-false}
+use borrow.Author.Tests.{ltb-true, ltb-false, lt-ltb, le-ltb}
 use Rattle.octets.specs.Choice.{pick-case, given-cases, by-test, impossible}
 use Rattle.tags.specs.Types.{longest}
 use Rattle.tags.specs.Reading.{headAt}
 use Rattle.tags.specs.declared.Tag.{Tag}
 use Rattle.tags.specs.declared.Tag.the-variants.{Item, Opening, Closing}
 use Rattle.tags.proofs.Refusals.{TagHas}
-use Rattle.items.specs.Reading.{Out, walk, itemsOf, itemAt, endOf, counted, mostItems}
+use Rattle.items.specs.Reading.{Out, walk, itemsOf, itemAt, oneAt, endOf, counted, mostItems}
 use Rattle.items.specs.Reading.Out.{good, bad}
 use Rattle.items.specs.declared.Tally.{Tally}
 use Rattle.items.specs.declared.One.{One as OneItem}
 use Rattle.items.proofs.Refusals.{OutHas, head-has, walk-has, item-has}
+use Rattle.items.proofs.Longest.{one-over, one-within}
 use Rattle.reader.specs.Reading.{shown, judged, stepOf}
 use Rattle.reader.specs.declared.Step.{Step}
+use Rattle.reader.proofs.Heads.{step-over}
 use Rattle.npdu.specs.Fault.{partRules, partFault, sooner, faultOf}
 use Rattle.npdu.specs.Reading.{readNpdu, refusedBy}
 use Rattle.npdu.proofs.Outcome as Network
@@ -49,23 +51,28 @@ unfolding counted
 count-refused n (good rs end) h e = impossible (cc)
 count-refused n (bad x) h e = let z : x ≡ n = cc in rw (← z) h
 
--- 39 first, then the rows of a walk
-counting : (s : List ℕ) → ((longest < length s) × (counted (itemsOf s) ≡ Tally.Refused 39)) ⊎ ((length s ≤ longest) × ((n : ℕ) → counted (itemsOf s) ≡ Tally.Refused n → Row n))
-unfolding itemsOf counted
-counting s =
-    by-test (ltb longest (length s))
-    (λ e. inl (ltb-true _ _ e, rw e))
-    (λ e. inr (ltb-false _ _ e, λ n q. count-refused n (walk mostItems s 0 []) (walk-has Row rows mostItems s 0 []) (rw e at q)))
+-- 39 first: over 16,384 octets the answer is 39, within them a refusal is one of the rows
+module _ {A : Type 0} (not : ℕ → A) (apart : (n : ℕ) → not n ≡ not 39 → n ≡ 39) (s : List ℕ) (a : A) (over : longest < length s → a ≡ not 39)
+    (within : length s ≤ longest → (n : ℕ) → a ≡ not n → Row n) where
+  thirty-nine : ((n : ℕ) → a ≡ not n → Between 30 39 n) × ((a ≡ not 39) ↔ (longest < length s))
+  thirty-nine =
+      by-test (ltb longest (length s))
+      (λ t.
+      let h = ltb-true _ _ t in
+      let e = over h in
+      (λ n q. (let z = apart n (sym q ∙ e) in (omega arith, omega arith)), (λ _. h, λ _. e)))
+      (λ t.
+      let h = ltb-false _ _ t in
+      (λ n q. (let z = within h n q in (omega (arith, z .0), omega (arith, z .1))), (λ q. absurd (omega (arith, within h 39 q .1)), λ l. absurd (omega arith))))
 
 pub count-numbers : CountNumbers
-count-numbers s = by (counting s)
-  where
-    by : ((longest < length s) × (counted (itemsOf s) ≡ Tally.Refused 39)) ⊎ ((length s ≤ longest) × ((n : ℕ) → counted (itemsOf s) ≡ Tally.Refused n → Row n))
-        → ((n : ℕ) → counted (itemsOf s) ≡ Tally.Refused n → Between 30 39 n) × ((counted (itemsOf s) ≡ Tally.Refused 39 → longest < length s) × (longest < length s → counted (itemsOf s) ≡ Tally.Refused 39))
-    by (inl h) = (λ n e. (let q : Tally.Refused n ≡ Tally.Refused 39 = sym e ∙ h .1 in let z : n ≡ 39 = cc in (omega arith, omega arith)), (λ _. h .0, λ _. h .1))
-    by (inr h) = (λ n e. (let z = h .1 n e in (omega (arith, z .0), omega (arith, z .1))), (λ e. (let z = h .1 39 e in absurd (omega (arith, z .1))), λ l. absurd (omega (arith, h .0))))
+unfolding itemsOf counted
+count-numbers s =
+    thirty-nine Tally.Refused (λ n e. cc) s (counted (itemsOf s))
+    (λ h. rw (lt-ltb _ _ h))
+    (λ h n q. count-refused n (walk mostItems s 0 []) (walk-has Row rows mostItems s 0 []) (rw (le-ltb _ _ h) at q))
 
--- ---- the reader value
+-- ---- one item, and the reader value
 abbrev StepRow : Step → Type 0
 StepRow (Step.Item k n v p l next) = Unit {0}
 StepRow (Step.Group n p next) = Unit {0}
@@ -80,12 +87,19 @@ judged-row (Closing n p) h (good rs end) w = (omega arith, omega arith)
 judged-row (Tag.Refused x) h (good rs end) w = h
 judged-row t h (bad x) w = w
 
-at-row : (s : List ℕ) (at : ℕ) → StepRow (stepOf s at)
+at-row : (s : List ℕ) (at : ℕ) → length s ≤ longest → StepRow (stepOf s at)
 unfolding stepOf
-at-row s at = pick-case StepRow (leb (length s) at) tt (judged-row (headAt s at) (head-has Row rows s at) (itemAt s at) (item-has Row rows s at))
+at-row s at h =
+    rw (le-ltb _ _ h) (pick-case StepRow (leb (length s) at) tt (judged-row (headAt s at) (head-has Row rows s at) (itemAt s at) (item-has Row rows s at)))
 
 pub item-numbers : ItemNumbers
-item-numbers s at n = (item-refused n (itemAt s at) (item-has Row rows s at), λ e. subst StepRow e (at-row s at))
+unfolding endOf
+item-numbers s at =
+    let one = thirty-nine OneItem.Refused (λ n e. cc) s (endOf (oneAt s at))
+    (λ h. rw (one-over s at h))
+    (λ h n q. item-refused n (itemAt s at) (item-has Row rows s at) (rw (one-within s at h) at q)) in
+    let step = thirty-nine Step.Refused (λ n e. cc) s (stepOf s at) (step-over s at) (λ h n q. subst StepRow q (at-row s at h)) in
+    (one .0, one .1, step .0, step .1)
 
 -- ---- headers
 pub network-numbers : NetworkNumbers

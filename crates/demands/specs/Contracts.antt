@@ -24,7 +24,7 @@ use Rattle.apdu.specs.Fault as HeaderFault
 use Rattle.apdu.specs.declared.Pdu.{Pdu}
 use Rattle.apdu.specs.declared.Answer as Apdu
 use Rattle.items.specs.Grammar as Items
-use Rattle.items.specs.Reading.{itemsOf, counted, itemAt, endOf}
+use Rattle.items.specs.Reading.{itemsOf, counted, itemAt, oneAt, endOf}
 use Rattle.items.specs.Records.{thingsOf}
 use Rattle.items.specs.Listing.{Listed}
 use Rattle.items.specs.declared.Tally.{Tally}
@@ -73,6 +73,7 @@ use Rattle.apdu_writer.proofs.write.Reads as apdu-write-call
 use Rattle.items.proofs.count.Reads as items-count-call
 use Rattle.items.proofs.list.Reads as items-list-call
 use Rattle.items.proofs.item_at.Reads as items-item-at-call
+use Rattle.items.proofs.whole_at.Reads as items-whole-at-call
 use Rattle.item_writer.proofs.write.Reads as items-write-call
 use Rattle.services.proofs.read.Reads as services-read-call
 use Rattle.service_writer.proofs.write.Reads as services-write-call
@@ -159,6 +160,9 @@ pub record Contracts : Type 0 where
       (Listed (now s) (now out) r (now out′))
   pub items-item-at : (κ1 : Lft) (s : RefT (List ℕ)) (at : ℕ) (r : OneItem)
       → Contract (items-item-at-call.Pre (κ1, tt) (s, (at, tt))) (items-item-at-call.Post (κ1, tt) (s, (at, tt)) r (s, (at, tt)))
+      (r ≡ endOf (oneAt (now s) at))
+  pub items-whole-at : (κ1 : Lft) (s : RefT (List ℕ)) (at : ℕ) (r : OneItem)
+      → Contract (items-whole-at-call.Pre (κ1, tt) (s, (at, tt))) (items-whole-at-call.Post (κ1, tt) (s, (at, tt)) r (s, (at, tt)))
       (r ≡ endOf (itemAt (now s) at))
   pub items-write : (κ1 κ2 κ3 : Lft) (records source out out′ : RefT (List ℕ)) (r : Written)
       → Contract (items-write-call.Pre (κ1, (κ2, (κ3, tt))) (records, (source, (out, tt)))) (items-write-call.Post (κ1, (κ2, (κ3, tt))) (records, (source, (out, tt))) r (records, (source, (out′, tt))))

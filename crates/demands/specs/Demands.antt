@@ -44,7 +44,7 @@ use Rattle.tags.specs.Types.{longest}
 use Rattle.tags.specs.Reading.{headAt}
 use Rattle.tags.specs.Layout as Tags
 use Rattle.items.specs.Grammar as Items
-use Rattle.items.specs.Reading.{itemsOf, counted, itemAt, endOf}
+use Rattle.items.specs.Reading.{itemsOf, counted, itemAt, oneAt, endOf}
 use Rattle.items.specs.Records.{thingsOf}
 use Rattle.items.specs.Listing.{Listed}
 use Rattle.items.specs.declared.Tally.{Tally}
@@ -112,7 +112,8 @@ pub record OneAnswer : Type 0 where
   pub apdu-write : (p : Pdu) (out : List ℕ) → One (Written × List ℕ) (λ x. Laid (HeaderFault.faultOf p) (Header.header p) out (x .0) (x .1))
   pub items-count : (s : List ℕ) → One Tally (λ r. r ≡ counted (itemsOf s))
   pub items-list : (s out : List ℕ) → One (Tally × List ℕ) (λ x. Listed s out (x .0) (x .1))
-  pub items-item-at : (s : List ℕ) (at : ℕ) → One OneItem (λ r. r ≡ endOf (itemAt s at))
+  pub items-item-at : (s : List ℕ) (at : ℕ) → One OneItem (λ r. r ≡ endOf (oneAt s at))
+  pub items-whole-at : (s : List ℕ) (at : ℕ) → One OneItem (λ r. r ≡ endOf (itemAt s at))
   pub items-write : (records source out : List ℕ)
       → One (Written × List ℕ) (λ x. Laid (writeFault records source) (Items.encodeAll (thingsOf source (recordsIn records))) out (x .0) (x .1))
   pub services-read : (kind choice : ℕ) (s : List ℕ) → One ServiceAnswer.Answer (λ r. r ≡ readService kind choice s)
@@ -143,9 +144,11 @@ HeaderNumbers = (s : List ℕ) (n : ℕ) → readApdu s ≡ Apdu.Answer.Refused 
 abbrev pub CountNumbers : Type 0
 CountNumbers = (s : List ℕ) → ((n : ℕ) → counted (itemsOf s) ≡ Tally.Refused n → Between 30 39 n) × ((counted (itemsOf s) ≡ Tally.Refused 39) ↔ (longest < length s))
 
--- one item with its whole group, read by itself or by the reader value: 30 to 38
+-- one item with its whole group, read by itself or by the reader value: the same
 abbrev pub ItemNumbers : Type 0
-ItemNumbers = (s : List ℕ) (at n : ℕ) → (endOf (itemAt s at) ≡ OneItem.Refused n → Between 30 38 n) × (stepOf s at ≡ ReaderStep.Refused n → Between 30 38 n)
+ItemNumbers = (s : List ℕ) (at : ℕ)
+    → ((n : ℕ) → endOf (oneAt s at) ≡ OneItem.Refused n → Between 30 39 n) × ((endOf (oneAt s at) ≡ OneItem.Refused 39) ↔ (longest < length s))
+    × ((n : ℕ) → stepOf s at ≡ ReaderStep.Refused n → Between 30 39 n) × ((stepOf s at ≡ ReaderStep.Refused 39) ↔ (longest < length s))
 
 -- services: "Tag refusals 30 to 39 come before 43 and 40 to 42"; 43 exactly for a "choice not above for that PDU"
 abbrev pub ServiceNumbers : Type 0

@@ -9,6 +9,7 @@ use lib.Dec.{eqb, leb}
 use lib.ListN.{length, take, drop}
 use Rattle.octets.specs.Choice.{pick}
 use Rattle.octets.specs.Reading.{Octets, oct}
+use Rattle.sums.specs.Sums.{headerRun, headerCheck, dataRun, dataSent}
 use Rattle.npdu.specs.Reading.{readNpdu}
 use Rattle.npdu.specs.Layout as Network
 use Rattle.npdu.specs.Fault as NetworkFault
@@ -16,7 +17,7 @@ use Rattle.apdu.specs.Reading.{readApdu}
 use Rattle.apdu.specs.Layout as Header
 use Rattle.apdu.specs.Fault as HeaderFault
 use Rattle.items.specs.Grammar as Items
-use Rattle.items.specs.Reading.{itemsOf, counted, itemAt, endOf}
+use Rattle.items.specs.Reading.{itemsOf, counted, oneAt, endOf}
 use Rattle.items.specs.Records.{thingsOf}
 use Rattle.items.specs.Listing.{Listed}
 use Rattle.items.specs.declared.Tally.{Tally}
@@ -46,7 +47,7 @@ use Rattle.hitchbarley.specs.Answers.{Writes, Fills, FillsTo}
 use Rattle.hitchbarley.specs.Headers.{apduGood, apduNumber, apduOctets, apduParams, npduFault, apduFault}
 use Rattle.hitchbarley.specs.Items.{tallyNumber, tallyCount, Counts, Lists, Steps, stepGood, stepNumber, stepRecord, stepPlace}
 use Rattle.hitchbarley.specs.Services.{serviceGood, serviceNumber, serviceOctets, serviceFault}
-use Rattle.demands.specs.Words.{SixtyThenFiftyNine, Broken, AcceptedBack, WholeBack}
+use Rattle.demands.specs.Words.{One, SixtyThenFiftyNine, Broken, AcceptedBack, WholeBack}
 
 -- ---- the calls of one trunk, over a state area
 -- the area's octets are a state's, of which P holds
@@ -157,8 +158,8 @@ ExportedList = (s area : List ℕ) (r count : ℕ) (later : List ℕ) → Lists 
 
 abbrev pub ExportedNext : Type 0
 ExportedNext = (s : List ℕ) (at r next : ℕ) → Steps s at r next
-    → ((n : ℕ) → endOf (itemAt s at) ≡ OneItem.One.Next n → (r ≡ 0) × (next ≡ n))
-    × ((x : ℕ) → endOf (itemAt s at) ≡ OneItem.One.Refused x → (r ≡ x) × (next ≡ 0))
+    → ((n : ℕ) → endOf (oneAt s at) ≡ OneItem.One.Next n → (r ≡ 0) × (next ≡ n))
+    × ((x : ℕ) → endOf (oneAt s at) ≡ OneItem.One.Refused x → (r ≡ x) × (next ≡ 0))
 
 -- ---- writers from a record of its size: 60 exactly for another size; else the number f that the record deserves, "61 last"; a refusal changes nothing, and
 -- "nothing past a result is written"
@@ -200,3 +201,37 @@ ExportedServiceBack = (fields value area : List ℕ) (wrote : ℕ) (later : List
     → (let v = serviceAt fields in
     Writes (serviceFault fields value) (ServiceWriter.octetsOf v value) area 0 wrote later
     → AcceptedBack v (take wrote later) × WholeBack v value (take wrote later))
+
+-- ---- "any two answers it allows are shown equal": a field for each of the calls, by the promise that `ExportedContracts` cites. The answer stands with the
+-- numbers given back and then the lent areas as the call leaves them. A state area is octets.
+pub record OneExported : Type 0 where
+  pub hb-header-check : (head : List ℕ) → One ℕ (λ r. r ≡ headerCheck head)
+  pub hb-data-check : (payload : List ℕ) → One ℕ (λ r. r ≡ dataSent payload)
+  pub hb-header-run : (register : ℕ) (piece : List ℕ) → One ℕ (λ r. r ≡ headerRun register piece)
+  pub hb-data-run : (register : ℕ) (piece : List ℕ) → One ℕ (λ r. r ≡ dataRun register piece)
+  pub hb-fresh : (state : List ℕ) → One (ℕ × List ℕ) (λ x. Saves freshCollector state (x .0) (x .1))
+  pub hb-feed : (state piece report area : List ℕ) → Octets state
+      → One (ℕ × ℕ × ℕ × List ℕ × List ℕ × List ℕ) (λ x. Trunk.Feeds state report area piece (x .0) (x .1) (x .2) (x .3) (x .4) (x .5))
+  pub hb-silence : (state report : List ℕ) → Octets state → One (ℕ × ℕ × List ℕ × List ℕ) (λ x. Trunk.Stills state report (x .0) (x .1) (x .2) (x .3))
+  pub hb-forget : (state : List ℕ) (slot : ℕ) → Octets state → One (ℕ × List ℕ) (λ x. Trunk.Forgets state slot (x .0) (x .1))
+  pub hb-npdu-read : (octets fields : List ℕ)
+      → (let h = readNpdu octets in
+      One (ℕ × ℕ × List ℕ) (λ x. FillsTo npduSize (eqb (h .refused) 0) (h .refused) (npduRecord (h .head)) (h .next) fields (x .0) (x .1) (x .2)))
+  pub hb-npdu-write : (fields out : List ℕ) → One (ℕ × ℕ × List ℕ) (λ x. Writes (npduFault fields) (Network.encode (npduAt fields)) out (x .0) (x .1) (x .2))
+  pub hb-apdu-read : (octets fields : List ℕ)
+      → (let a = readApdu octets in
+      One (ℕ × ℕ × List ℕ) (λ x. FillsTo apduSize (apduGood a) (apduNumber a) (apduOctets a) (apduParams a) fields (x .0) (x .1) (x .2)))
+  pub hb-apdu-write : (fields out : List ℕ) → One (ℕ × ℕ × List ℕ) (λ x. Writes (apduFault fields) (Header.header (apduAt fields)) out (x .0) (x .1) (x .2))
+  pub hb-items-count : (octets : List ℕ) → One (ℕ × ℕ) (λ x. Counts octets (x .0) (x .1))
+  pub hb-items-list : (octets listed : List ℕ) → One (ℕ × ℕ × List ℕ) (λ x. Lists octets listed (x .0) (x .1) (x .2))
+  pub hb-item-next : (octets : List ℕ) (at : ℕ) → One (ℕ × ℕ) (λ x. Steps octets at (x .0) (x .1))
+  pub hb-item-step : (octets : List ℕ) (at : ℕ) (item : List ℕ)
+      → (let y = stepOf octets at in
+      One (ℕ × ℕ × List ℕ) (λ x. FillsTo 12 (stepGood y) (stepNumber y) (stepRecord y) (stepPlace y) item (x .0) (x .1) (x .2)))
+  pub hb-items-write : (listed source out : List ℕ)
+      → One (ℕ × ℕ × List ℕ) (λ x. Writes (writeFault listed source) (Items.encodeAll (thingsOf source (recordsIn listed))) out (x .0) (x .1) (x .2))
+  pub hb-service-read : (kind choice : ℕ) (params fields : List ℕ)
+      → (let a = readService kind choice params in
+      One (ℕ × List ℕ) (λ x. Fills serviceSize (serviceGood a) (serviceNumber a) (serviceOctets a) fields (x .0) (x .1)))
+  pub hb-service-write : (fields value out : List ℕ)
+      → One (ℕ × ℕ × List ℕ) (λ x. Writes (serviceFault fields value) (ServiceWriter.octetsOf (serviceAt fields) value) out (x .0) (x .1) (x .2))

@@ -5,7 +5,7 @@ use mathlib.Core.Bool.{true, false}
 use mathlib.Core.List.{List}
 use lib.ListN.{length}
 use Rattle.items.specs.Records.{rec, recordOctets}
-use Rattle.items.specs.Reading.{itemsOf, counted, itemAt, endOf}
+use Rattle.items.specs.Reading.{itemsOf, counted, oneAt, endOf}
 use Rattle.items.specs.Listing.{Listed}
 use Rattle.items.specs.declared.Tally.{Tally}
 use Rattle.items.specs.declared.One.{One}
@@ -23,10 +23,10 @@ counts e a = record { number = a .0 ∙ ap tallyNumber e; items = a .1 ∙ ap ta
 pub lists : {s area later : List ℕ} {t : Tally} {r count : ℕ} → Listed s area t later → (r ≡ tallyNumber t) × (count ≡ tallyCount t) → Lists s area r count later
 lists l a = record { number = a .0 ∙ ap tallyNumber (l .answer); items = a .1 ∙ ap tallyCount (l .answer); after = l .after }
 
-pub steps : {s : List ℕ} {at : ℕ} {o : One} → o ≡ endOf (itemAt s at) → (p : One) → o ≡ p → Steps s at (oneNumber p) (onePlace p)
+pub steps : {s : List ℕ} {at : ℕ} {o : One} → o ≡ endOf (oneAt s at) → (p : One) → o ≡ p → Steps s at (oneNumber p) (onePlace p)
 steps e p d = let q = sym d ∙ e in record { number = ap oneNumber q; place = ap onePlace q }
 
-module _ (s : List ℕ) (at : ℕ) (o : One) (e : o ≡ endOf (itemAt s at)) where
+module _ (s : List ℕ) (at : ℕ) (o : One) (e : o ≡ endOf (oneAt s at)) where
   pub steps-next : (n : ℕ) → o ≡ Next n → Steps s at 0 n
   steps-next n d = steps e (Next n) d
 

@@ -5,5 +5,6 @@ pub mod Items
 pub mod Services
 pub mod Trips
 pub mod One
+pub mod Kept
 pub mod Demand
 pub mod Offerable

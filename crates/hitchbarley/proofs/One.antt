@@ -7,8 +7,10 @@ use lib.Dec.{eqb}
 use lib.ListN.{length}
 use Rattle.octets.specs.Choice.{pick}
 use Rattle.octets.specs.Laid.{answerOf, areaOf}
-use Rattle.items.specs.Reading.{itemsOf, counted, itemAt, endOf}
+use Rattle.items.specs.Reading.{itemsOf, counted, oneAt, endOf}
 use Rattle.items.specs.Listing.{listedOf, listing}
+use Rattle.collector.specs.declared.Collector.{Collector}
+use Rattle.state.specs.Calls.{Saves}
 use Rattle.hitchbarley.specs.Answers.{writtenNumber, writtenCount, Writes, Fills, FillsTo}
 use Rattle.hitchbarley.specs.Items.{tallyNumber, tallyCount, oneNumber, onePlace, Counts, Lists, Steps}
 use Rattle.hitchbarley.specs.Trunk.{Feeds, Stills, Forgets}
@@ -37,6 +39,9 @@ module _ {r r′ : ℕ} where
   pub steps-one : {s : List ℕ} {at n n′ : ℕ} → Steps s at r n → Steps s at r′ n′ → (r ≡ r′) × (n ≡ n′)
   steps-one a b = (both-are (a .number) (b .number), both-are (a .place) (b .place))
 
+  pub saves-one : {c : Collector} {area later later′ : List ℕ} → Saves c area r later → Saves c area r′ later′ → (r ≡ r′) × (later ≡ later′)
+  saves-one a b = (both-are (a .answer) (b .answer), both-are (a .after) (b .after))
+
   pub feeds-one : {state report area piece s s′ p p′ a a′ : List ℕ} {e e′ t t′ : ℕ} → Feeds state report area piece r e t s p a → Feeds state report area piece r′ e′ t′ s′ p′ a′
       → (r ≡ r′) × (e ≡ e′) × (t ≡ t′) × (s ≡ s′) × (p ≡ p′) × (a ≡ a′)
   feeds-one x y =
@@ -48,7 +53,7 @@ module _ {r r′ : ℕ} where
   pub forgets-one : {state s s′ : List ℕ} {n : ℕ} → Forgets state n r s → Forgets state n r′ s′ → (r ≡ r′) × (s ≡ s′)
   forgets-one x y = (both-are (x .number) (y .number), both-are (x .stateAfter) (y .stateAfter))
 
--- there is one (for the promises of a trunk the proved calls themselves show it)
+-- there is one; for the calls of a trunk Kept shows it
 pub writes-some : (f : ℕ) (o area : List ℕ) → Writes f o area (writtenNumber (answerOf f o area)) (writtenCount (answerOf f o area)) (areaOf f o area)
 writes-some f o area = record { number = refl; count = refl; after = refl }
 
@@ -65,5 +70,5 @@ counts-some s = record { number = refl; items = refl }
 pub lists-some : (s area : List ℕ) → Lists s area (tallyNumber (listedOf (length area) (itemsOf s))) (tallyCount (listedOf (length area) (itemsOf s))) (listing area (itemsOf s))
 lists-some s area = record { number = refl; items = refl; after = refl }
 
-pub steps-some : (s : List ℕ) (at : ℕ) → Steps s at (oneNumber (endOf (itemAt s at))) (onePlace (endOf (itemAt s at)))
+pub steps-some : (s : List ℕ) (at : ℕ) → Steps s at (oneNumber (endOf (oneAt s at))) (onePlace (endOf (oneAt s at)))
 steps-some s at = record { number = refl; place = refl }

@@ -5,7 +5,7 @@ use mathlib.Core.Bool.{Bool, true, false}
 use mathlib.Core.List.{List, []}
 use lib.ListN.{length}
 use Rattle.items.specs.Records.{rec, recordOctets}
-use Rattle.items.specs.Reading.{itemsOf, counted, itemAt, endOf}
+use Rattle.items.specs.Reading.{itemsOf, counted, oneAt, endOf}
 use Rattle.items.specs.Listing.{listedOf, listing}
 use Rattle.items.specs.declared.Tally.{Tally}
 use Rattle.items.specs.declared.Tally.the-variants.{Items}
@@ -65,5 +65,5 @@ pub record Lists (s area : List ℕ) (r count : ℕ) (later : List ℕ) : Type 0
   pub after : later ≡ listing area (itemsOf s)
 
 pub record Steps (s : List ℕ) (at r next : ℕ) : Type 0 where
-  pub number : r ≡ oneNumber (endOf (itemAt s at))
-  pub place : next ≡ onePlace (endOf (itemAt s at))
+  pub number : r ≡ oneNumber (endOf (oneAt s at))
+  pub place : next ≡ onePlace (endOf (oneAt s at))

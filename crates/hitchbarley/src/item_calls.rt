@@ -26,7 +26,7 @@ pub extern "C" fn hb_items_list(octets: &[u8], listed: &mut [u8], count: &mut us
     answers::tallied(t, count)
 }
 
-// The place after the item at a place, with its whole group where it opens one: 0 or 30 to 38.
+// The place after the item at a place, with its whole group where it opens one: 0 or 30 to 39.
 #[no_mangle]
 pub extern "C" fn hb_item_next(octets: &[u8], at: usize, next: &mut usize) -> u8
     ensures { λ r. ⌜ Steps (now (octets .entry)) at r (now (next .exit)) ⌝ }
@@ -43,7 +43,7 @@ pub extern "C" fn hb_item_next(octets: &[u8], at: usize, next: &mut usize) -> u8
     }
 }
 
-// The reader's step: the record of the item or group at a place, and the place after it: 0, 60 or 30 to 38. At the end, 0 and no place.
+// The reader's step: the record of the item or group at a place, and the place after it: 0, 60 or 30 to 39. At the end, 0 and no place.
 #[no_mangle]
 pub extern "C" fn hb_item_step(octets: &[u8], at: usize, item: &mut [u8], next: &mut usize) -> u8
     ensures { λ r. ⌜ FillsTo 12 (stepGood (stepOf (now (octets .entry)) at)) (stepNumber (stepOf (now (octets .entry)) at)) (stepRecord (stepOf (now (octets .entry)) at)) (stepPlace (stepOf (now (octets .entry)) at)) (now (item .entry)) r (now (next .exit)) (now (item .exit)) ⌝ }

@@ -5,9 +5,12 @@ pub mod Steps
 pub mod Walk
 pub mod RecordOctets
 pub mod Ways
+pub mod Longest
 pub mod Listing
 pub mod Left
 pub mod Exact
+pub mod Closing
+pub mod OneItem
 pub mod Back
 pub mod HeadFront
 pub mod HeadMoved

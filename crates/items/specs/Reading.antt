@@ -77,6 +77,10 @@ within (suc k) s at groups = whileOpen at groups (pick (leb (length s) at) (bad 
 unfoldable pub itemAt : List ℕ → ℕ → Out
 itemAt s at = step (within (mostItems - 1) s) (headAt s at) []
 
+-- the same of parameter octets. 39: "over 16,384 parameter octets (judged first)"
+unfoldable pub oneAt : List ℕ → ℕ → Out
+oneAt s at = refuse (ltb longest (length s)) (bad 39) (itemAt s at)
+
 -- what reading one item answers
 unfoldable pub endOf : Out → One
 endOf (good rs end) = One.Next end

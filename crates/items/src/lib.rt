@@ -3,7 +3,7 @@ mod cycle;
 mod records;
 
 ghost use mathlib.Core.Path.{_≡_};
-ghost use Rattle.items.specs.Reading.{itemsOf, counted, itemAt, endOf};
+ghost use Rattle.items.specs.Reading.{itemsOf, counted, itemAt, oneAt, endOf};
 ghost use Rattle.items.specs.Cycle.{Ran};
 ghost use Rattle.items.specs.Listing.{Listed};
 
@@ -81,8 +81,18 @@ pub fn list(s: &[u8], out: &mut [u8]) -> Tally
     }
 }
 
-// The place after the item at a place, with its whole group where it opens one.
+// The place after the item at a place, with its whole group where it opens one. 39: judged first.
 pub fn item_at(s: &[u8], at: usize) -> One
+    ensures { λ r. ⌜ r ≡ endOf (oneAt (now (s .entry)) at) ⌝ }
+{
+    if 16384 < s.len() {
+        return One::Refused(39);
+    }
+    whole_at(s, at)
+}
+
+// The same for callers that have judged how many octets there are.
+pub fn whole_at(s: &[u8], at: usize) -> One
     ensures { λ r. ⌜ r ≡ endOf (itemAt (now (s .entry)) at) ⌝ }
 {
     let mut none = [0u8; 0];

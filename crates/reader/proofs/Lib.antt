@@ -1,3 +1,6 @@
 pub mod Heads
+pub mod Ways
 pub mod Walking
 pub mod Onward
+pub mod Exact
+pub mod Rows

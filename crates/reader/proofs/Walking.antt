@@ -7,6 +7,7 @@ use lib.ListN.{length}
 use lib.Dec.{leb}
 use borrow.Author.Tests.{leb-true, leb-false, ne-eqb}
 use Rattle.octets.specs.Choice.{by-test}
+use Rattle.tags.specs.Types.{longest}
 use Rattle.tags.specs.Reading.{headAt}
 use Rattle.tags.specs.declared.Tag.{Tag}
 use Rattle.tags.proofs.Bounds.{TagIn}
@@ -16,6 +17,7 @@ use Rattle.items.specs.Reading.Out.{good}
 use Rattle.items.specs.declared.One.{One}
 use Rattle.items.specs.Left.{Left, AllDeep}
 use Rattle.items.proofs.Steps.{tag-in}
+use Rattle.items.proofs.Longest.{items-within}
 use Rattle.items.proofs.Left.{left-all, left-end, left-item, left-group, left-closing, left-refused}
 use Rattle.reader.specs.declared.Step.{Step}
 use Rattle.reader.specs.declared.Step.the-variants.{Item, Group, End, Refused}
@@ -33,7 +35,7 @@ outer-first : (k n v p l : ℕ) (rs : List Rec) → k ≤ 2 → outermost (rec k
 unfolding outermost
 outer-first k n v p l rs h = rw (ne-eqb k 3 (omega arith))
 
-module _ (s : List ℕ) where
+module _ (s : List ℕ) (short : length s ≤ longest) where
   -- one step of it, where the walk goes on from every later place
   module _ (at : ℕ) (here : at < length s) (on : (to : ℕ) → at < to → (rs : List Rec) → Left s to rs → Walk s to (outermost rs)) (rs : List Rec) (w : Left s at rs) where
     goes : (r : Rec) (st : Step) (to : ℕ) (rest : List Rec) → outermost rs ≡ r ∷ outermost rest → stepOf s at ≡ st → Meets st r to → at < to → Left s to rest → Walk s at (outermost rs)
@@ -44,7 +46,7 @@ module _ (s : List ℕ) where
         let b : TagIn s at (Tag.Item k n v p l) = tag-in s at e in
         let g = left-item s at rs w k n v p l e in
         let z = ap outermost (g .1) ∙ outer-first k n v p l (g .0) (omega (arith, b .class)) in
-        goes (rec k n 0 v p l) (Item k n v p l (p + l)) (p + l) (g .0) z (step-item s at here k n v p l e) (refl, refl) (omega (arith, b .on)) (g .2)
+        goes (rec k n 0 v p l) (Item k n v p l (p + l)) (p + l) (g .0) z (step-item s at short here k n v p l e) (refl, refl) (omega (arith, b .on)) (g .2)
 
     goes-group : (n p : ℕ) → headAt s at ≡ Tag.Opening n p → Walk s at (outermost rs)
     unfolding endOf
@@ -55,7 +57,7 @@ module _ (s : List ℕ) where
         let f : endOf (itemAt s at) ≡ One.Next (c .to) = rw (o .item) in
         let past = ap outermost (c .all) ∙ outer-past (c .inner) (c .deep) n (c .to) (c .rest) in
         let z = ap outermost (o .own) ∙ outer-first 2 n 0 p 0 (o .others) (omega arith) ∙ ap (λ (x : List Rec). rec 2 n 0 0 p 0 ∷ x) past in
-        goes (rec 2 n 0 0 p 0) (Group n p (c .to)) (c .to) (c .rest) z (step-group s at here n p (c .to) e f) (refl, refl) (omega (arith, b .on, c .on)) (c .left)
+        goes (rec 2 n 0 0 p 0) (Group n p (c .to)) (c .to) (c .rest) z (step-group s at short here n p (c .to) e f) (refl, refl) (omega (arith, b .on, c .on)) (c .left)
 
     goes-on : (t : Tag) → headAt s at ≡ t → Walk s at (outermost rs)
     goes-on (Tag.Item k n v p l) e = goes-item k n v p l e
@@ -65,7 +67,7 @@ module _ (s : List ℕ) where
 
   ends : (at : ℕ) → length s ≤ at → (rs : List Rec) → Left s at rs → Walk s at (outermost rs)
   unfolding outermost
-  ends at h rs w = subst (λ (x : List Rec). Walk s at (outermost x)) (sym (left-end s at rs w h)) (step-end s at h)
+  ends at h rs w = subst (λ (x : List Rec). Walk s at (outermost x)) (sym (left-end s at rs w h)) (step-end s at short h)
 
   -- by the octets left
   walks : (k at : ℕ) → length s ≤ at + k → (rs : List Rec) → Left s at rs → Walk s at (outermost rs)
@@ -79,8 +81,9 @@ module _ (s : List ℕ) where
   pub walk-left : (at : ℕ) (rs : List Rec) → Left s at rs → Walk s at (outermost rs)
   walk-left at rs w = walks (length s) at (omega arith) rs w
 
+module _ (s : List ℕ) where
   pub walk-all : (rs : List Rec) (end : ℕ) → itemsOf s ≡ good rs end → Walk s 0 (outermost rs)
-  walk-all rs end e = walk-left 0 rs (left-all s rs end e)
+  walk-all rs end e = walk-left s (items-within s rs end e) 0 rs (left-all s rs end e)
 
   -- any two walks from a place meet the same
   meets-one : (st : Step) (r r′ : Rec) (to to′ : ℕ) → Meets st r to → Meets st r′ to′ → (r ≡ r′) × (to ≡ to′)

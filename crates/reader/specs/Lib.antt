@@ -1,2 +1,4 @@
 pub mod Reading
 pub mod Walking
+pub mod Stands
+pub mod Rows

@@ -1,7 +1,10 @@
 -- What a step of the reader answers: "a reader value that carries the parameter octets and its own place, built over the proved item reader".
 use Prim.Native.Nat.{ℕ}
 use mathlib.Core.List.{List}
-use Rattle.octets.specs.Reading.{reach}
+use lib.Dec.{ltb}
+use lib.ListN.{length}
+use Rattle.octets.specs.Reading.{reach, refuse}
+use Rattle.tags.specs.Types.{longest}
 use Rattle.tags.specs.Reading.{headAt}
 use Rattle.tags.specs.declared.Tag.{Tag}
 use Rattle.items.specs.Reading.{itemAt, endOf}
@@ -21,6 +24,6 @@ unfoldable pub judged : Tag → One → Step
 judged t (One.Next next) = shown t next
 judged t (One.Refused x) = Refused x
 
--- the step at a place; where no octet stands, at the end or past it, there is no item
+-- the step at a place. 39: "over 16,384 parameter octets (judged first)"; where no octet stands, at the end or past it, there is no item
 unfoldable pub stepOf : List ℕ → ℕ → Step
-stepOf s at = reach s at End (judged (headAt s at) (endOf (itemAt s at)))
+stepOf s at = refuse (ltb longest (length s)) (Refused 39) (reach s at End (judged (headAt s at) (endOf (itemAt s at))))

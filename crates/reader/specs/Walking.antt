@@ -1,10 +1,12 @@
 -- Going through the parameters step by step.
 use Prim.Native.Nat.{ℕ, _≤_, _<_}
 use mathlib.Core.Path.{_≡_}
+use mathlib.Core.Logic.{_⊎_}
 use mathlib.Core.List.{List, [], _∷_}
 use lib.ListN.{length}
 use lib.Dec.{eqb}
 use Rattle.octets.specs.Choice.{pick, both, non}
+use Rattle.tags.specs.Types.{longest}
 use Rattle.items.specs.Records.{Rec, rec}
 use Rattle.reader.specs.declared.Step.{Step}
 use Rattle.reader.specs.declared.Step.the-variants.{Item, Group, End, Refused}
@@ -27,9 +29,9 @@ unfoldable pub outermost : List Rec → List Rec
 outermost [] = []
 outermost (r ∷ rs) = pick (both (eqb (r .depth) 0) (non (eqb (r .kind) 3))) (r ∷ outermost rs) (outermost rs)
 
--- the next place lies behind this one and not behind the end; a refusal comes only where an octet stands
+-- the next place lies behind this one and not behind the end; a refusal comes only where an octet stands, or is 39
 abbrev pub Onward : List ℕ → ℕ → Step → Type 0
 Onward s at (Item k n v p l next) = (at < next) × (next ≤ length s)
 Onward s at (Group n p next) = (at < next) × (next ≤ length s)
 Onward s at End = length s ≤ at
-Onward s at (Refused x) = at < length s
+Onward s at (Refused x) = (at < length s) ⊎ ((x ≡ 39) × (longest < length s))

@@ -31,10 +31,13 @@ pub enum Step {
     Refused(u8),
 }
 
-// One item with its whole group, by the item reader.
+// One item with its whole group, by the item reader. 39: judged first.
 pub fn step_at(params: &[u8], at: usize) -> Step
     ensures { λ r. ⌜ r ≡ stepOf (now (params .entry)) at ⌝ }
 {
+    if 16384 < params.len() {
+        return Step::Refused(39);
+    }
     if params.len() <= at {
         return Step::End;
     }
@@ -55,7 +58,7 @@ pub fn step_at(params: &[u8], at: usize) -> Step
             next: place + len,
         },
         Tag::Opening { number, place } => {
-            let o = items::item_at(params, at);
+            let o = items::whole_at(params, at);
             match o {
                 One::Next(next) => Step::Group {
                     number,

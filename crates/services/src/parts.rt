@@ -219,7 +219,7 @@ pub fn group(s: &[u8], at: usize, number: u8) -> ValuePart
             if n != number {
                 return ValuePart::Refused(40);
             }
-            let e = items::item_at(s, at);
+            let e = items::whole_at(s, at);
             match e {
                 One::Next(to) => ValuePart::Is {
                     value: Span {

@@ -1,4 +1,4 @@
-use Rattle.items.proofs.Walk.{one-next, one-shut, one-no}
+use Rattle.items.proofs.Longest.{answer-over, answer-within}
 use borrow.Author.Needs.{needs}
 use Rattle.items.proofs.item_at.Statement.{statement}
 use Rattle.items.proofs.item_at.Tie as tie
@@ -7,11 +7,6 @@ pub item-at-spec : {M : Type 1} → statement M
 item-at-spec =
     tie.close
     (tie.spec
-    (λ c. search needs)
+    (λ c. search (needs, answer-over))
     (λ c κs. search needs)
-    (λ c. search needs)
-    (λ c. search needs)
-    (λ c. search needs)
-    (λ c. search (needs, one-next))
-    (λ c. search (needs, one-shut))
-    (λ c. search (needs, one-no)))
+    (λ c. search (needs, answer-within)))
