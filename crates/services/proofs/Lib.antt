@@ -9,3 +9,4 @@ pub mod Written
 pub mod Exact
 pub mod Worked
 pub mod Refusals
+pub mod Offences
