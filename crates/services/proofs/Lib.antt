@@ -10,3 +10,6 @@ pub mod Exact
 pub mod Worked
 pub mod Refusals
 pub mod Offences
+pub mod Rules
+pub mod PartRows
+pub mod Rows
