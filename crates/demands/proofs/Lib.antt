@@ -20,3 +20,4 @@ pub mod Damage
 pub mod Exported
 pub mod ServicesBack
 pub mod ReportsWorked
+pub mod ServiceRows

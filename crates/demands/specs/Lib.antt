@@ -10,3 +10,4 @@ pub mod Completed
 pub mod Damage
 pub mod Exported
 pub mod ReportsWorked
+pub mod ServiceRows
