@@ -264,7 +264,7 @@ module _ (o : List ℕ) (n low high : ℕ) (next : Bool → ℕ → List Rec →
 pub last-read : (at : ℕ) (ts : List Thing) (w v : Service) → last w (recordsFrom at 0 ts) ≡ Good v → (ts ≡ []) × (w ≡ v)
 unfolding last recordsFrom
 last-read at [] w v e = (refl, (let z : w ≡ v = cc in z))
-last-read at (t ∷ ts) w v e = never 42 v e
+last-read at (t ∷ ts) w v e = never _ v e
 
 -- a number that was read last
 pub record LastNumber (make : List ℕ → Thing) (low high : ℕ) (build : ℕ → Service) (ts : List Thing) (v : Service) : Type 0 where
