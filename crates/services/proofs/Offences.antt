@@ -5,7 +5,7 @@ use mathlib.Core.Logic.{_⊎_, inl, inr, ⊎-elim}
 use mathlib.Core.List.{List, [], _∷_, _++_}
 use Rattle.octets.specs.Choice.{impossible}
 use Rattle.tags.specs.Layout.{Thing}
-use Rattle.services.specs.Rows.{Rule, Breaks, Keeps, Wanted, itemOf, ruleOf, Comes, Optional, Behind, brings, Taken, Takes, Offence}
+use Rattle.services.specs.Rows.{Breaks, Keeps, Wanted, itemOf, ruleOf, Comes, Optional, Behind, brings, Taken, Takes, Offence}
 use Rattle.services.specs.Rows.Breaks.{wrong-length, longer-form, out-of-range}
 use Rattle.services.specs.Rows.Wanted.{inContext, ofType, group, optional, limits}
 use Rattle.services.specs.Rows.Taken.{there, absent}

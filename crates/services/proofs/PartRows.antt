@@ -2,20 +2,18 @@
 use Prim.Native.Nat.{ℕ, zero, suc, _+_, _≤_}
 use native.Mathlib.Omega.{arith}
 use mathlib.Core.Path.{_≡_, refl, sym, ap, subst, _∙_}
-use mathlib.Core.Logic.{_⊎_, inl, inr, ⊎-elim}
+use mathlib.Core.Logic.{⊎-elim}
 use mathlib.Core.List.{List, [], _∷_, _++_}
-use mathlib.Core.Bool.{Bool, true, false}
+use mathlib.Core.Bool.{true, false}
 use lib.ListN.{length}
-use lib.Dec.{ltb, eqb}
 use borrow.Author.Tests.{eq-eqb}
-use Rattle.octets.specs.Choice.{pick, pick-cases, non, by-test, impossible, not-so}
+use Rattle.octets.specs.Choice.{pick, pick-cases, by-test, impossible, not-so}
 use Rattle.octets.specs.Has.{Has}
-use Rattle.octets.specs.Numbers.{valueAt}
 use Rattle.tags.specs.Layout.{Thing, Valid, encode, tagLength}
 use Rattle.tags.specs.Layout.Thing.{application, boolean, context, opening, closing}
 use Rattle.items.specs.Records.{Rec, rec}
 use Rattle.items.specs.Reading.{mostItems}
-use Rattle.items.specs.Grammar.{encodeAll, Balanced, recordOf, recordsFrom}
+use Rattle.items.specs.Grammar.{Balanced, recordOf, recordsFrom}
 use Rattle.services.specs.Parts.{Then, is, present, wanted, numberOf, last}
 use Rattle.services.specs.Parts as parts
 use Rattle.services.specs.Layout.{valued}

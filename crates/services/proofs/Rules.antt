@@ -8,12 +8,12 @@ use mathlib.Core.Bool.{true, false}
 use lib.ListN.{length}
 use lib.Dec.{ltb, eqb}
 use borrow.Author.Tests.{lt-ltb, eq-eqb, ltb-true, ltb-false, eqb-true, eqb-false}
-use Rattle.octets.specs.Choice.{pick, pick-cases, pick-so, not-so}
+use Rattle.octets.specs.Choice.{pick-cases, pick-so, not-so}
 use Rattle.octets.specs.Reading.{oct}
 use Rattle.octets.specs.Has.{Has, has-at}
 use Rattle.octets.specs.Numbers.{valueAt, longForm}
-use Rattle.items.specs.Records.{Rec, rec}
-use Rattle.services.specs.Parts.{numberOf, numberRule, objectRule, typeOf}
+use Rattle.items.specs.Records.{rec}
+use Rattle.services.specs.Parts.{numberRule, objectRule, typeOf}
 use Rattle.services.specs.Reading.{deviceRule}
 use Rattle.services.specs.Rows.{Rule, numberIn, Breaks, Keeps}
 use Rattle.services.specs.Rows.Rule.{number, object, objectOf}
