@@ -23,3 +23,4 @@ pub mod OneExported
 pub mod ServicesBack
 pub mod ReportsWorked
 pub mod RecordOctets
+pub mod ServiceRows

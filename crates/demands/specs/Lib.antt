@@ -12,3 +12,4 @@ pub mod Damage
 pub mod Exported
 pub mod ReportsWorked
 pub mod RecordOctets
+pub mod ServiceRows

@@ -32,12 +32,12 @@ tags-good f (good rs end) v e = (rs, (end, refl, e))
 tags-good f (bad x) v e = never x v e
 
 -- the items of a good list stand at its octets' front
-all-here : (o : List ℕ) (ts : List Thing) → Grammar ts → o ≡ encodeAll ts → Here o 0 ts
+pub all-here : (o : List ℕ) (ts : List Thing) → Grammar ts → o ≡ encodeAll ts → Here o 0 ts
 all-here o ts g e =
     record { valid = g .valid; stands = subst (λ (x : List ℕ). Has x 0 (encodeAll ts)) (sym e) (all-has (encodeAll ts)); inside = omega arith; room = mostItems; most = omega arith; balanced = g .balanced }
 
 -- octets are read as one list of items
-reads-one : (x : List ℕ) (ts us : List Thing) → Reads x ts → Reads x us → ts ≡ us
+pub reads-one : (x : List ℕ) (ts us : List Thing) → Reads x ts → Reads x us → ts ≡ us
 reads-one x ts us a b =
     let z : good (a .records) (length x) ≡ good (b .records) (length x) = sym (a .accepted) ∙ b .accepted in
     let y : a .records ≡ b .records = cc z in

@@ -9,3 +9,7 @@ pub mod Written
 pub mod Exact
 pub mod Worked
 pub mod Refusals
+pub mod Offences
+pub mod Rules
+pub mod PartRows
+pub mod Rows

@@ -18,7 +18,7 @@ use Rattle.services.specs.Layout.{shortest}
 use Rattle.services.proofs.Places.{Kept}
 
 -- octets that stand somewhere are one number there and by themselves
-stands-value : (o : List ℕ) (p : ℕ) (xs : List ℕ) → Has o p xs → valueAt o p (length xs) ≡ valueAt xs 0 (length xs)
+pub stands-value : (o : List ℕ) (p : ℕ) (xs : List ℕ) → Has o p xs → valueAt o p (length xs) ≡ valueAt xs 0 (length xs)
 stands-value o p xs h = value-shift o xs p 0 (length xs) (λ j w. rw zero-add (has-at o p xs h j w))
 
 -- n octets that stand somewhere are the digits of their number

@@ -127,7 +127,7 @@ module _ (o : List ℕ) (kind number : ℕ) (make : List ℕ → Thing) (shape :
         }
 
     -- the records from there on
-    records-are : recordsFrom at 0 (make xs ∷ ts) ≡ rec kind number 0 0 (place at xs) (length xs) ∷ recordsFrom (after at xs) 0 ts
+    pub records-are : recordsFrom at 0 (make xs ∷ ts) ≡ rec kind number 0 0 (place at xs) (length xs) ∷ recordsFrom (after at xs) 0 ts
     unfolding recordsFrom
     records-are = rw (shape .own at xs, shape .flat xs)
 
@@ -264,7 +264,7 @@ module _ (o : List ℕ) (n low high : ℕ) (next : Bool → ℕ → List Rec →
 pub last-read : (at : ℕ) (ts : List Thing) (w v : Service) → last w (recordsFrom at 0 ts) ≡ Good v → (ts ≡ []) × (w ≡ v)
 unfolding last recordsFrom
 last-read at [] w v e = (refl, (let z : w ≡ v = cc in z))
-last-read at (t ∷ ts) w v e = never 42 v e
+last-read at (t ∷ ts) w v e = never _ v e
 
 -- a number that was read last
 pub record LastNumber (make : List ℕ → Thing) (low high : ℕ) (build : ℕ → Service) (ts : List Thing) (v : Service) : Type 0 where
@@ -326,7 +326,7 @@ valued-length inner =
     let b = closing-length in
     simp (length-append, encode-append, append-nil) (omega arith)
 
-valued-append : (inner rest : List Thing) → valued inner ++ rest ≡ opening 3 ∷ (inner ++ (closing 3 ∷ rest))
+pub valued-append : (inner rest : List Thing) → valued inner ++ rest ≡ opening 3 ∷ (inner ++ (closing 3 ∷ rest))
 unfolding valued
 valued-append inner rest = simp append-assoc
 
@@ -397,7 +397,7 @@ grouped o next at inner rest v h whole j most b e =
     }
 
 -- only an opening 3 begins it
-opens : (at : ℕ) (t : Thing) → is 2 3 (recordOf at 0 t) ≡ true → t ≡ opening 3
+pub opens : (at : ℕ) (t : Thing) → is 2 3 (recordOf at 0 t) ≡ true → t ≡ opening 3
 unfolding recordOf
 opens at (application m xs) e = not-so e
 opens at (boolean v) e = not-so e

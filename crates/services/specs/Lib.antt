@@ -3,3 +3,4 @@ pub mod Reading
 pub mod Layout
 pub mod Places
 pub mod Shows
+pub mod Rows
