@@ -13,6 +13,7 @@ pub mod Contracts
 pub mod HeaderRows
 pub mod SegmentRows
 pub mod TagRows
+pub mod ItemRows
 pub mod StateOctets
 pub mod Completed
 pub mod CompletedRun

@@ -4,6 +4,7 @@ pub mod Contracts
 pub mod HeaderRows
 pub mod SegmentRows
 pub mod TagRows
+pub mod ItemRows
 pub mod NetworkRows
 pub mod StateOctets
 pub mod Completed

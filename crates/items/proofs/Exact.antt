@@ -25,7 +25,7 @@ use Rattle.items.specs.Grammar.{encodeAll, Balanced, AllValid, Grammar, 
 use Rattle.items.proofs.Machine.{more-records, more-good, never, walk-ends, walk-steps}
 
 -- an item that is no opening and no closing
-abbrev Simple : Thing → Type 0
+abbrev pub Simple : Thing → Type 0
 Simple (application n xs) = Unit {0}
 Simple (boolean v) = Unit {0}
 Simple (context n xs) = Unit {0}
@@ -33,7 +33,7 @@ Simple (opening n) = ⊥
 Simple (closing n) = ⊥
 
 -- what reading an item's own tag does
-simple-step : (rest : ℕ → List ℕ → Out) (at : ℕ) (groups : List ℕ) (t : Thing) → Simple t → step rest (tagOf at t) groups ≡ more (recordOf at (length groups) t ∷ []) (rest (at + length (encode t)) groups)
+pub simple-step : (rest : ℕ → List ℕ → Out) (at : ℕ) (groups : List ℕ) (t : Thing) → Simple t → step rest (tagOf at t) groups ≡ more (recordOf at (length groups) t ∷ []) (rest (at + length (encode t)) groups)
 unfolding step tagOf recordOf
 simple-step rest at groups (application n xs) p = let e : at + length (encode (application n xs)) ≡ at + tagLength (application n xs) + length xs = omega (arith, encode-length (application n xs)) in rw e
 simple-step rest at groups (boolean v) p = let e : at + length (encode (boolean v)) ≡ at + tagLength (boolean v) + 0 = omega (arith, encode-length (boolean v)) in rw e
@@ -41,11 +41,11 @@ simple-step rest at groups (context n xs) p = let e : at + length (encode (conte
 simple-step rest at groups (opening n) p = absurd p
 simple-step rest at groups (closing n) p = absurd p
 
-open-step : (rest : ℕ → List ℕ → Out) (at : ℕ) (groups : List ℕ) (n : ℕ) → step rest (tagOf at (opening n)) groups ≡ pick (leb deepest (length groups)) (bad 37) (more (recordOf at (length groups) (opening n) ∷ []) (rest (at + length (encode (opening n))) (n ∷ groups)))
+pub open-step : (rest : ℕ → List ℕ → Out) (at : ℕ) (groups : List ℕ) (n : ℕ) → step rest (tagOf at (opening n)) groups ≡ pick (leb deepest (length groups)) (bad 37) (more (recordOf at (length groups) (opening n) ∷ []) (rest (at + length (encode (opening n))) (n ∷ groups)))
 unfolding step tagOf recordOf
 open-step rest at groups n = let e : at + length (encode (opening n)) ≡ at + tagLength (opening n) = omega (arith, encode-length (opening n)) in rw e
 
-close-step : (rest : ℕ → List ℕ → Out) (at m : ℕ) (groups : List ℕ) (n : ℕ) → step rest (tagOf at (closing n)) (m ∷ groups) ≡ pick (eqb n m) (more (recordOf at (suc (length groups)) (closing n) ∷ []) (rest (at + length (encode (closing n))) groups)) (bad 35)
+pub close-step : (rest : ℕ → List ℕ → Out) (at m : ℕ) (groups : List ℕ) (n : ℕ) → step rest (tagOf at (closing n)) (m ∷ groups) ≡ pick (eqb n m) (more (recordOf at (suc (length groups)) (closing n) ∷ []) (rest (at + length (encode (closing n))) groups)) (bad 35)
 unfolding step tagOf recordOf closes
 close-step rest at m groups n =
     let e : at + length (encode (closing n)) ≡ at + tagLength (closing n) = omega (arith, encode-length (closing n)) in

@@ -9,7 +9,9 @@ pub mod Listing
 pub mod Left
 pub mod Exact
 pub mod Back
+pub mod ListedRecords
 pub mod HeadFront
 pub mod HeadMoved
 pub mod LeftToRight
+pub mod Rows
 pub mod Examples

@@ -4,3 +4,4 @@ pub mod Grammar
 pub mod Listing
 pub mod Cycle
 pub mod Left
+pub mod Rows
