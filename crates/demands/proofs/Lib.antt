@@ -14,6 +14,7 @@ pub mod HeaderRows
 pub mod SegmentRows
 pub mod TagRows
 pub mod Steps
+pub mod ItemRows
 pub mod StateOctets
 pub mod Completed
 pub mod CompletedRun

@@ -5,6 +5,7 @@ pub mod HeaderRows
 pub mod SegmentRows
 pub mod TagRows
 pub mod Steps
+pub mod ItemRows
 pub mod NetworkRows
 pub mod StateOctets
 pub mod Completed

@@ -44,15 +44,15 @@ pub reading-fits : (o : List ℕ) → Octets o → (rs : List Rec) (end : ℕ) �
 reading-fits o os rs end e = let w = written o os rs end e in subst AllFit (sym (w .records)) (records-fit 0 0 (w .things) (omega (arith, w .grammar .short)))
 
 -- listing that gave a count laid the records of a good reading
-record Lists (o : Out) (area : List ℕ) (n : ℕ) : Type 0 where
-  records : List Rec
-  end : ℕ
-  reading : o ≡ good records end
-  count : length records ≡ n
-  fits : length (recordsOctets records) ≤ length area
-  laid : listing area o ≡ splice area 0 (recordsOctets records)
+pub record Lists (o : Out) (area : List ℕ) (n : ℕ) : Type 0 where
+  pub records : List Rec
+  pub end : ℕ
+  pub reading : o ≡ good records end
+  pub count : length records ≡ n
+  pub fits : length (recordsOctets records) ≤ length area
+  pub laid : listing area o ≡ splice area 0 (recordsOctets records)
 
-lists : (o : Out) (area : List ℕ) (n : ℕ) → listedOf (length area) o ≡ Items n → Lists o area n
+pub lists : (o : Out) (area : List ℕ) (n : ℕ) → listedOf (length area) o ≡ Items n → Lists o area n
 unfolding listedOf listing
 lists (good rs end) area n e =
     let w = pick-not (ltb (length area) (length (recordsOctets rs))) (Tally.Refused 61) (Items (length rs)) (Items n) (λ q. impossible (cc)) e in

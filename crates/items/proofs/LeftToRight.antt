@@ -21,7 +21,7 @@ use Rattle.items.proofs.HeadFront.{head-front}
 use Rattle.items.proofs.HeadMoved.{tagMoved, head-moved, moved-pick, ends-there}
 
 -- a refusal passes the records before it
-more-refused : (rs : List Rec) (o : Out) (x : ℕ) → more rs o ≡ bad x → o ≡ bad x
+pub more-refused : (rs : List Rec) (o : Out) (x : ℕ) → more rs o ≡ bad x → o ≡ bad x
 unfolding more
 more-refused rs (good ys end) x e = never x (rs ++ ys) end (sym e)
 more-refused rs (bad y) x e = e

@@ -12,7 +12,9 @@ pub mod Exact
 pub mod Closing
 pub mod OneItem
 pub mod Back
+pub mod ListedRecords
 pub mod HeadFront
 pub mod HeadMoved
 pub mod LeftToRight
+pub mod Rows
 pub mod Examples

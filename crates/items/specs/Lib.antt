@@ -5,3 +5,4 @@ pub mod OneItem
 pub mod Listing
 pub mod Cycle
 pub mod Left
+pub mod Rows

@@ -1,0 +1,182 @@
+-- The rows 30 to 39 over a run of items, and its records: what the statements of specs/ItemRows say, from the laws of items.
+use Prim.Native.Nat.{ℕ, zero, suc, _+_, _≤_, _<_}
+use native.Mathlib.Omega.{arith}
+use mathlib.Core.Path.{_≡_, refl, sym, ap, subst, _∙_}
+use mathlib.Core.Logic.{inl, inr}
+use mathlib.Core.List.{List, [], _∷_, _++_, append-nil}
+use lib.ListN.{length, length-append}
+use Rattle.octets.specs.Choice.{impossible}
+use Rattle.octets.specs.Reading.{Octets}
+use Rattle.octets.specs.Every.{octets-none, octets-more, octets-join}
+use Rattle.octets.specs.Numbers.{digits}
+use Rattle.octets.specs.Splice.{splice}
+use Rattle.tags.specs.Types.{least, most}
+use Rattle.tags.specs.Reading.{numberAt, twoAt, fourAt, lengthAt, firstRule, firstContent, wholeAt, signBad, signedAt, contentsAt, contextAt, applicationAt, headAt}
+use Rattle.tags.specs.Layout.{Thing, Valid, encode, goodContents, highBits, numberOctets, lowBits, lengthOctets, tagLength}
+use Rattle.tags.specs.Layout.Thing.{application, opening}
+use Rattle.items.specs.Records.{recordOctets, recordsOctets}
+use Rattle.items.specs.Reading.{Out, more, ending, closes, step, walk, itemsOf, counted}
+use Rattle.items.specs.Reading.Out.{good, bad}
+use Rattle.items.specs.Grammar.{encodeAll, Balanced, AllValid, Grammar, recordOf, recordsFrom}
+use Rattle.items.specs.Listing.{listing}
+use Rattle.items.specs.Rows.{Leads, Row}
+use Rattle.items.specs.Rows.Behind.{one-more, ends-open}
+use Rattle.items.specs.Rows.Row.{offends}
+use Rattle.items.specs.declared.Tally.{Tally}
+use Rattle.items.specs.declared.Tally.the-variants.{Items}
+use Rattle.items.proofs.Exact.{reads, written}
+use Rattle.items.proofs.LeftToRight.{items-front}
+use Rattle.items.proofs.ListedRecords.{records-count, records-listed, listed-written}
+use Rattle.items.proofs.Rows.{rows-exact}
+use Rattle.demands.specs.ItemRows.{ItemRows, Verdict, ItemsOneRow, ItemsLeftToRight, ItemsRecords, ListedRecords, RecordsWorked, times, ItemsWorked, ItemsMost}
+
+-- ---- the number that counting gives is the reading's
+refused-of : (q : Out) (x : ℕ) → counted q ≡ Tally.Refused x → q ≡ bad x
+unfolding counted
+refused-of (good rs end) x e = impossible (cc)
+refused-of (bad y) x e = let z : y ≡ x = cc in ap bad z
+
+of-refused : (q : Out) (x : ℕ) → q ≡ bad x → counted q ≡ Tally.Refused x
+unfolding counted
+of-refused q x e = rw e
+
+pub item-rows : ItemRows
+item-rows o os x = (λ e. rows-exact o os x .0 (refused-of (itemsOf o) x e), λ w. of-refused (itemsOf o) x (rows-exact o os x .1 w))
+
+-- ---- exactly one
+-- a refusal's number, 0 of what is read
+abbrev numberOf : Out → ℕ
+numberOf (good rs end) = 0
+numberOf (bad x) = x
+
+module _ (o : List ℕ) (os : Octets o) where
+  verdict : (q : Out) → itemsOf o ≡ q → Verdict o (numberOf q)
+  verdict (good rs end) e = let w = written o os rs end e in inl (refl, (w .things, w .grammar, w .octets))
+  verdict (bad x) e = inr (rows-exact o os x .0 e)
+
+  verdict-is : (x : ℕ) → Verdict o x → x ≡ numberOf (itemsOf o)
+  verdict-is x (inl (z, (ts, g, e))) = z ∙ sym (ap numberOf (ap itemsOf e ∙ reads ts g))
+  verdict-is x (inr w) = sym (ap numberOf (rows-exact o os x .1 w))
+
+pub items-one-row : ItemsOneRow
+items-one-row o os =
+    record { answer = numberOf (itemsOf o); allowed = verdict o os (itemsOf o) refl; same = λ x y a b. verdict-is o os x a ∙ sym (verdict-is o os y b) }
+
+pub items-left-to-right : ItemsLeftToRight
+items-left-to-right o more x short whole closed e = of-refused (itemsOf (o ++ more)) x (items-front o more x whole closed short (refused-of (itemsOf o) x e))
+
+-- ---- records
+pub items-records : ItemsRecords
+items-records = (reads, λ o os rs end e. let w = written o os rs end e in (w .things, w .grammar, w .octets, w .records, w .last))
+
+pub listed-records : ListedRecords
+listed-records = (records-listed, listed-written)
+
+-- ---- by computation
+pub records-worked : RecordsWorked
+unfolding recordOctets recordsOctets digits encodeAll encode highBits numberOctets lowBits lengthOctets tagLength recordOf recordsFrom listing splice itemsOf walk step closes ending more headAt numberAt lengthAt twoAt fourAt firstRule firstContent contentsAt wholeAt signBad signedAt contextAt applicationAt least most
+records-worked = record { twelve = refl; layout = refl; records = refl; read = refl; listed = refl }
+
+pub items-worked : ItemsWorked
+unfolding counted times itemsOf walk step closes ending more headAt numberAt lengthAt twoAt fourAt firstRule firstContent contentsAt wholeAt signBad signedAt contextAt applicationAt least most
+items-worked =
+    record {
+      closing = (refl, refl, refl, refl, refl, refl, refl, refl);
+      extended = (refl, refl, refl);
+      left-open = (refl, refl, refl, refl);
+      deep = (refl, refl, refl, refl, refl, refl, refl);
+      tags = (refl, refl, refl, refl, refl);
+    }
+
+-- ---- 2,048 items, by the laws
+null : Thing
+null = application 0 []
+
+nulls : ℕ → List Thing
+nulls zero = []
+nulls (suc n) = null ∷ nulls n
+
+null-valid : Valid (application 0 [])
+unfolding least most goodContents
+null-valid = record { known = omega arith; other = λ e. absurd (omega arith); low = omega arith; high = omega arith; rule = refl }
+
+nulls-valid : (n : ℕ) → AllValid (nulls n)
+unfolding nulls null
+nulls-valid zero = tt
+nulls-valid (suc n) = (null-valid, nulls-valid n)
+
+nulls-balanced : (n : ℕ) → Balanced n [] (nulls n)
+unfolding nulls null
+nulls-balanced zero = tt
+nulls-balanced (suc n) = nulls-balanced n
+
+nulls-lead : (n : ℕ) (gs : List ℕ) → Leads gs (nulls n) gs
+unfolding nulls null
+nulls-lead zero gs = refl
+nulls-lead (suc n) gs = nulls-lead n gs
+
+nulls-length : (n : ℕ) → length (nulls n) ≡ n
+unfolding nulls
+nulls-length zero = refl
+nulls-length (suc n) = ap suc (nulls-length n)
+
+nulls-octets : (n : ℕ) → encodeAll (nulls n) ≡ times n 0
+unfolding nulls null encodeAll encode lowBits lengthOctets times
+nulls-octets zero = refl
+nulls-octets (suc n) = ap (λ (l : List ℕ). 0 ∷ l) (nulls-octets n)
+
+times-length : (n x : ℕ) → length (times n x) ≡ n
+unfolding times
+times-length zero x = refl
+times-length (suc n) x = ap suc (times-length n x)
+
+times-octets : (n x : ℕ) → x < 256 → Octets (times n x)
+unfolding times
+times-octets zero x h = octets-none
+times-octets (suc n) x h = octets-more x (times n x) h (times-octets n x h)
+
+counts-nulls : (n : ℕ) → Grammar (nulls n) → counted (itemsOf (times n 0)) ≡ Items n
+unfolding counted
+counts-nulls n g = rw (← nulls-octets n, reads (nulls n) g, records-count 0 0 (nulls n), nulls-length n)
+
+nulls-grammar : Grammar (nulls 2048)
+nulls-grammar =
+    record { valid = nulls-valid 2048; balanced = nulls-balanced 2048; short = omega (arith, ap length (nulls-octets 2048), times-length 2048 0) }
+
+nulls-over : (r : List ℕ) → 0 < length r → length r ≤ 14336 → Row 38 (times 2048 0 ++ r)
+nulls-over r some short =
+    offends (omega (arith, length-append (times 2048 0) r, times-length 2048 0)) (nulls 2048) [] r
+    (record {
+      octets = ap (λ (l : List ℕ). l ++ r) (sym (nulls-octets 2048));
+      valid = nulls-valid 2048;
+      leads = nulls-lead 2048 [];
+      most = omega (arith, nulls-length 2048);
+    })
+    (one-more refl (nulls-length 2048) some)
+
+-- 3E is an opening of group 3
+opening-octets : (ts : List Thing) → encodeAll (opening 3 ∷ ts) ≡ 62 ∷ encodeAll ts
+unfolding encodeAll encode highBits numberOctets
+opening-octets ts = refl
+
+nulls-open : Row 36 (62 ∷ times 2047 0)
+nulls-open =
+    offends (omega (arith, times-length 2047 0)) (opening 3 ∷ nulls 2047) (3 ∷ []) []
+    (record {
+      octets = octets;
+      valid = (omega arith, nulls-valid 2047);
+      leads = (omega arith, nulls-lead 2047 (3 ∷ []));
+      most = omega (arith, nulls-length 2047);
+    })
+    (ends-open refl refl (omega arith))
+  where
+    octets : 62 ∷ times 2047 0 ≡ encodeAll (opening 3 ∷ nulls 2047) ++ []
+    octets = ap (λ (l : List ℕ). 62 ∷ l) (sym (nulls-octets 2047)) ∙ sym (opening-octets (nulls 2047)) ∙ sym (append-nil (encodeAll (opening 3 ∷ nulls 2047)))
+
+pub items-most : ItemsMost
+items-most =
+    record {
+      most = counts-nulls 2048 nulls-grammar;
+      over = λ r os some short. item-rows (times 2048 0 ++ r) (octets-join (times 2048 0) r (times-octets 2048 0 (omega arith)) os) 38 .1 (nulls-over r some short);
+      unclosed = item-rows (62 ∷ times 2047 0) (octets-more 62 (times 2047 0) (omega arith) (times-octets 2047 0 (omega arith))) 36 .1 nulls-open;
+    }

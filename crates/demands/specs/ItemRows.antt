@@ -1,0 +1,133 @@
+-- The rows 30 to 39 over a run of items, each "given exactly when", and the records of a run that is read: items/specs/Rows says a row's words of the octets.
+use Prim.Native.Nat.{ℕ, zero, suc, _*_, _≤_, _<_}
+use mathlib.Core.Path.{_≡_}
+use mathlib.Core.Logic.{_↔_, _⊎_}
+use mathlib.Core.List.{List, [], _∷_, _++_}
+use lib.ListN.{length, drop}
+use Rattle.octets.specs.Reading.{Octets}
+use Rattle.tags.specs.Layout.{Thing}
+use Rattle.tags.specs.Layout.Thing.{application, boolean, context, opening, closing}
+use Rattle.items.specs.Records.{Rec, rec, recordOctets, recordsOctets}
+use Rattle.items.specs.Reading.{itemsOf, counted}
+use Rattle.items.specs.Reading.Out.{good}
+use Rattle.items.specs.Grammar.{encodeAll, Grammar, recordsFrom}
+use Rattle.items.specs.Listing.{Listed, listing}
+use Rattle.items.specs.Rows.{Row}
+use Rattle.items.specs.declared.Tally.{Tally}
+use Rattle.demands.specs.Words.{One}
+
+-- ---- "No. | Given exactly when": a run of items is refused with a number exactly when the row of that number says so. 39 "over 16,384 parameter octets
+-- (judged first)"; else, behind good items with their groups open (GoodFront): 38 "a 2,049th item begins", 35 "closing tag without the same number
+-- innermost", 37 "opening with 16 open", 36 "end with a group open", and 30 to 34 as at one tag (TagRows).
+abbrev pub ItemRows : Type 0
+ItemRows = (o : List ℕ) → Octets o → (x : ℕ) → (counted (itemsOf o) ≡ Tally.Refused x) ↔ Row x o
+
+-- ---- any octets are exactly one thing: good items with every group closed (0), or what one row says. The reading is not named here.
+abbrev pub Verdict : List ℕ → ℕ → Type 0
+Verdict o x = ((x ≡ 0) × ((ts : List Thing) × Grammar ts × (o ≡ encodeAll ts))) ⊎ Row x o
+
+abbrev pub ItemsOneRow : Type 0
+ItemsOneRow = (o : List ℕ) → Octets o → One ℕ (Verdict o)
+
+-- ---- "Octets are judged left to right": a number other than those of a missing octet (30, 36) stands, whatever follows within 16,384 octets
+abbrev pub ItemsLeftToRight : Type 0
+ItemsLeftToRight = (o more : List ℕ) (x : ℕ) → length (o ++ more) ≤ 16384 → (x ≡ 30 → ⊥) → (x ≡ 36 → ⊥)
+    → counted (itemsOf o) ≡ Tally.Refused x → counted (itemsOf (o ++ more)) ≡ Tally.Refused x
+
+-- ---- "Reading writes one 12-octet record an item": the records of items of the grammar, from place 0 and depth 0, and no others
+abbrev pub ItemsRecords : Type 0
+ItemsRecords = ((ts : List Thing) → Grammar ts → itemsOf (encodeAll ts) ≡ good (recordsFrom 0 0 ts) (length (encodeAll ts)))
+    × ((o : List ℕ) → Octets o → (rs : List Rec) (end : ℕ) → itemsOf o ≡ good rs end
+    → (ts : List Thing) × Grammar ts × (o ≡ encodeAll ts) × (rs ≡ recordsFrom 0 0 ts) × (end ≡ length o))
+
+-- listing leaves them at the front of the area, where they fit, "and nothing past a result is written"
+abbrev pub ListedRecords : Type 0
+ListedRecords = ((ts : List Thing) → Grammar ts → (area later : List ℕ) (r : Tally) → Listed (encodeAll ts) area r later → 12 * length ts ≤ length area
+    → (r ≡ Tally.Items (length ts)) × (later ≡ recordsOctets (recordsFrom 0 0 ts) ++ drop (12 * length ts) area))
+    × ((o : List ℕ) → Octets o → (area later : List ℕ) (n : ℕ) → Listed o area (Tally.Items n) later
+    → (ts : List Thing) × Grammar ts × (o ≡ encodeAll ts) × (n ≡ length ts) × (later ≡ recordsOctets (recordsFrom 0 0 ts) ++ drop (12 * n) area))
+
+-- ---- worked records, places and depths by hand: 21 05, 11, 19 07, 2E, 3E, 44 42 39 99 9A, 3F, F9 14 55, 2F
+abbrev pub someItems : List Thing
+someItems =
+    application 2 (5 ∷ [])
+    ∷ boolean 1
+    ∷ context 1 (7 ∷ [])
+    ∷ opening 2
+    ∷ opening 3
+    ∷ application 4 (0x42 ∷ 0x39 ∷ 0x99 ∷ 0x9A ∷ [])
+    ∷ closing 3
+    ∷ context 20 (0x55 ∷ [])
+    ∷ closing 2
+    ∷ []
+
+abbrev pub someOctets : List ℕ
+someOctets =
+    0x21 ∷ 0x05 ∷ 0x11 ∷ 0x19 ∷ 0x07 ∷ 0x2E ∷ 0x3E ∷ 0x44 ∷ 0x42 ∷ 0x39 ∷ 0x99 ∷ 0x9A ∷ 0x3F ∷ 0xF9 ∷ 0x14 ∷ 0x55 ∷ 0x2F ∷ []
+
+-- "kind .., number, depth, boolean value else 0, contents place and length"; "Place is the octet after the tag. An opening and its closing have the depth
+-- outside them."
+abbrev pub someRecords : List Rec
+someRecords =
+    rec 0 2 0 0 1 1
+    ∷ rec 0 1 0 1 3 0
+    ∷ rec 1 1 0 0 4 1
+    ∷ rec 2 2 0 0 6 0
+    ∷ rec 2 3 1 0 7 0
+    ∷ rec 0 4 2 0 8 4
+    ∷ rec 3 3 1 0 13 0
+    ∷ rec 1 20 1 0 15 1
+    ∷ rec 3 2 0 0 17 0
+    ∷ []
+
+pub record RecordsWorked : Type 0 where
+  -- "(4 each, high octet first)", no two octets alike
+  pub twelve : recordOctets (rec 2 17 3 1 0x04050607 0x08090A0B) ≡ 2 ∷ 17 ∷ 3 ∷ 1 ∷ 4 ∷ 5 ∷ 6 ∷ 7 ∷ 8 ∷ 9 ∷ 10 ∷ 11 ∷ []
+  -- the run's layout, its records, and its reading
+  pub layout : encodeAll someItems ≡ someOctets
+  pub records : recordsFrom 0 0 someItems ≡ someRecords
+  pub read : itemsOf someOctets ≡ good someRecords 17
+  -- 21 05 11 listed over 26 octets: the last two stay
+  pub listed : listing
+      (71 ∷ 72 ∷ 73 ∷ 74 ∷ 75 ∷ 76 ∷ 77 ∷ 78 ∷ 79 ∷ 80 ∷ 81 ∷ 82 ∷ 83 ∷ 84 ∷ 85 ∷ 86 ∷ 87 ∷ 88 ∷ 89 ∷ 90 ∷ 91 ∷ 92 ∷ 93 ∷ 94 ∷ 95 ∷ 96 ∷ [])
+      (itemsOf (0x21 ∷ 0x05 ∷ 0x11 ∷ []))
+      ≡ 0 ∷ 2 ∷ 0 ∷ 0 ∷ 0 ∷ 0 ∷ 0 ∷ 1 ∷ 0 ∷ 0 ∷ 0 ∷ 1 ∷ 0 ∷ 1 ∷ 0 ∷ 1 ∷ 0 ∷ 0 ∷ 0 ∷ 3 ∷ 0 ∷ 0 ∷ 0 ∷ 0 ∷ 95 ∷ 96 ∷ []
+
+-- ---- worked refusals, at both sides of each limit
+abbrev pub Counts : List ℕ → ℕ → Type 0
+Counts o n = counted (itemsOf o) ≡ Tally.Items n
+
+abbrev pub Refuses : List ℕ → ℕ → Type 0
+Refuses o x = counted (itemsOf o) ≡ Tally.Refused x
+
+-- an octet so many times
+unfoldable pub times : ℕ → ℕ → List ℕ
+times zero x = []
+times (suc n) x = x ∷ times n x
+
+pub record ItemsWorked : Type 0 where
+  -- 35: "closing tag without the same number innermost"
+  -- 3E 3F; 3F; 3E 4F; 3E 4E 4F 3F; 3E 4E 3F; 3E 3F 3F; FE 10 FF 10; FE 10 FF 11
+  pub closing : Counts (0x3E ∷ 0x3F ∷ []) 2 × Refuses (0x3F ∷ []) 35 × Refuses (0x3E ∷ 0x4F ∷ []) 35 × Counts (0x3E ∷ 0x4E ∷ 0x4F ∷ 0x3F ∷ []) 4
+      × Refuses (0x3E ∷ 0x4E ∷ 0x3F ∷ []) 35 × Refuses (0x3E ∷ 0x3F ∷ 0x3F ∷ []) 35 × Counts (0xFE ∷ 0x10 ∷ 0xFF ∷ 0x10 ∷ []) 2
+      × Refuses (0xFE ∷ 0x10 ∷ 0xFF ∷ 0x11 ∷ []) 35
+  -- "An extended number, with its 35 or 37, is judged at its second octet", and 31 before them
+  -- 3E FF; 3E FF 03; 3E FF 0F
+  pub extended : Refuses (0x3E ∷ 0xFF ∷ []) 30 × Refuses (0x3E ∷ 0xFF ∷ 0x03 ∷ []) 31 × Refuses (0x3E ∷ 0xFF ∷ 0x0F ∷ []) 35
+  -- 36: "end with a group open"
+  -- no octet; 3E; 3E 4E 4F; 3E 11
+  pub left-open : Counts [] 0 × Refuses (0x3E ∷ []) 36 × Refuses (0x3E ∷ 0x4E ∷ 0x4F ∷ []) 36 × Refuses (0x3E ∷ 0x11 ∷ []) 36
+  -- 37: "opening with 16 open". 0E sixteen times and 0F as often; 0E sixteen times, then nothing, 11, 0E, FE, FE 0E, FE 0F
+  pub deep : Counts (times 16 0x0E ++ times 16 0x0F) 32 × Refuses (times 16 0x0E) 36 × Refuses (times 16 0x0E ++ (0x11 ∷ [])) 36
+      × Refuses (times 17 0x0E) 37 × Refuses (times 16 0x0E ++ (0xFE ∷ [])) 30 × Refuses (times 16 0x0E ++ (0xFE ∷ 0x0E ∷ [])) 31
+      × Refuses (times 16 0x0E ++ (0xFE ∷ 0x0F ∷ [])) 37
+  -- 30 to 34 behind a good item, before what follows
+  -- 11 25; 11 D0 3F; 11 15 3F; 11 20 3F; 11 22 00 3F
+  pub tags : Refuses (0x11 ∷ 0x25 ∷ []) 30 × Refuses (0x11 ∷ 0xD0 ∷ 0x3F ∷ []) 31 × Refuses (0x11 ∷ 0x15 ∷ 0x3F ∷ []) 32
+      × Refuses (0x11 ∷ 0x20 ∷ 0x3F ∷ []) 33 × Refuses (0x11 ∷ 0x22 ∷ 0x00 ∷ 0x3F ∷ []) 34
+
+-- 38: "a 2,049th item begins", with any octet; 2,048 are read, and 2,048 with a group open are 36. The items are nulls, 00.
+pub record ItemsMost : Type 0 where
+  pub most : Counts (times 2048 0) 2048
+  pub over : (r : List ℕ) → Octets r → 0 < length r → length r ≤ 14336 → Refuses (times 2048 0 ++ r) 38
+  pub unclosed : Refuses (0x3E ∷ times 2047 0) 36
