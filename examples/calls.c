@@ -200,6 +200,7 @@ static void items(void)
     struct octets o = of("0C 00 00 00 01 19 55 3E 44 42 39 99 9A 3F"), bad = of("3E 4F");
     struct octets r = of("01 00 00 00 00 00 00 01 00 00 00 04  01 01 00 00 00 00 00 06 00 00 00 01  02 03 00 00 00 00 00 08 00 00 00 00"
                          "00 04 01 00 00 00 00 09 00 00 00 04  03 03 00 00 00 00 00 0E 00 00 00 00");
+    static const uint8_t nulls[HB_SLOT + 1]; /* one octet more than 16,384 */
     uint8_t listed[5 * HB_ITEM], item[HB_ITEM], out[16];
     size_t count, next, wrote, met = 0;
 
@@ -216,6 +217,8 @@ static void items(void)
     want(hb_item_next(o.s, o.n, 0, &next) == 0 && next == 5);
     want(hb_item_next(o.s, o.n, 7, &next) == 0 && next == 14);
     want(hb_item_next(o.s, o.n, 14, &next) == HB_ITEM_ENDS && next == 0);
+    want(hb_item_next(nulls, sizeof nulls - 1, 0, &next) == 0 && next == 1);
+    want(hb_item_next(nulls, sizeof nulls, 0, &next) == HB_ITEM_OCTETS && next == 0);
     tell("hb_item_next");
 
     /* what stands in no group: the object, the property and the value's group */
@@ -223,6 +226,9 @@ static void items(void)
     want(met == 3 && next == 0);
     want(hb_item_step(o.s, o.n, 13, item, HB_ITEM, &next) == HB_ITEM_CLOSING && next == 0);
     want(hb_item_step(o.s, o.n, 0, item, HB_ITEM - 1, &next) == HB_NO_AREA && next == 0);
+    /* 39: after 60, before the end */
+    want(hb_item_step(nulls, sizeof nulls, 0, item, HB_ITEM - 1, &next) == HB_NO_AREA && next == 0);
+    want(hb_item_step(nulls, sizeof nulls, sizeof nulls, item, HB_ITEM, &next) == HB_ITEM_OCTETS && next == 0);
     tell("hb_item_step");
 
     want(hb_items_write(r.s, r.n, o.s, o.n, out, o.n, &wrote) == 0);

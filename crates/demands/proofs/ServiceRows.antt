@@ -16,7 +16,7 @@ use Rattle.services.specs.Reading.{targetParts, readProperty, readPropertyAck, 
 use Rattle.services.specs.declared.Answer.{Answer}
 use Rattle.services.specs.declared.Answer.the-variants.{Good, Refused}
 use Rattle.services.proofs.Rows.{rows-exact, good-message, message-good}
-use Rattle.demands.specs.ServiceRows.{ServiceRows, ServiceVerdict, ServicesOneRow, TargetRefused, ValueRefused, ServicesRefused}
+use Rattle.demands.specs.ServiceRows.{ServiceRows, ServiceVerdict, ServicesOneRow, ServicesRefused}
 
 pub service-rows : ServiceRows
 service-rows kind choice o os ts r x = rows-exact kind choice o os ts r x
@@ -51,70 +51,44 @@ services-one-row kind choice ts g os =
     }
 
 -- ---- by computation
-
-property-refused : TargetRefused 0 12
-unfolding readService layoutFor readProperty readPropertyAck writeProperty whoIs iAm deviceRule errorOf targetParts present wanted numberRule objectRule optionalNumber afterGroup group last itemsOf walk step closes ending more headAt numberAt lengthAt twoAt fourAt firstRule firstContent contentsAt wholeAt signBad signedAt contextAt applicationAt least most valueAt longForm
-property-refused =
-    record {
-      object-40 = (refl, refl, refl, refl);
-      object-41 = (refl, refl, refl);
-      property-40 = (refl, refl, refl, refl, refl);
-      property-41 = (refl, refl, refl);
-      index-41 = (refl, refl, refl);
-    }
-
-ack-refused : TargetRefused 3 12
-unfolding readService layoutFor readProperty readPropertyAck writeProperty whoIs iAm deviceRule errorOf targetParts present wanted numberRule objectRule optionalNumber afterGroup group last itemsOf walk step closes ending more headAt numberAt lengthAt twoAt fourAt firstRule firstContent contentsAt wholeAt signBad signedAt contextAt applicationAt least most valueAt longForm
-ack-refused =
-    record {
-      object-40 = (refl, refl, refl, refl);
-      object-41 = (refl, refl, refl);
-      property-40 = (refl, refl, refl, refl, refl);
-      property-41 = (refl, refl, refl);
-      index-41 = (refl, refl, refl);
-    }
-
-write-refused : TargetRefused 0 15
-unfolding readService layoutFor readProperty readPropertyAck writeProperty whoIs iAm deviceRule errorOf targetParts present wanted numberRule objectRule optionalNumber afterGroup group last itemsOf walk step closes ending more headAt numberAt lengthAt twoAt fourAt firstRule firstContent contentsAt wholeAt signBad signedAt contextAt applicationAt least most valueAt longForm
-write-refused =
-    record {
-      object-40 = (refl, refl, refl, refl);
-      object-41 = (refl, refl, refl);
-      property-40 = (refl, refl, refl, refl, refl);
-      property-41 = (refl, refl, refl);
-      index-41 = (refl, refl, refl);
-    }
-
-ack-value-refused : ValueRefused 3 12
-unfolding readService layoutFor readProperty readPropertyAck writeProperty whoIs iAm deviceRule errorOf targetParts present wanted numberRule objectRule optionalNumber afterGroup group last itemsOf walk step closes ending more headAt numberAt lengthAt twoAt fourAt firstRule firstContent contentsAt wholeAt signBad signedAt contextAt applicationAt least most valueAt longForm
-ack-value-refused =
-    record {
-      empty = ((_, refl), (_, refl), (_, refl));
-      value-40 = (refl, refl, refl, refl, refl, refl);
-      value-42 = refl;
-    }
-
-write-value-refused : ValueRefused 0 15
-unfolding readService layoutFor readProperty readPropertyAck writeProperty whoIs iAm deviceRule errorOf targetParts present wanted numberRule objectRule optionalNumber afterGroup group last itemsOf walk step closes ending more headAt numberAt lengthAt twoAt fourAt firstRule firstContent contentsAt wholeAt signBad signedAt contextAt applicationAt least most valueAt longForm
-write-value-refused =
-    record {
-      empty = ((_, refl), (_, refl), (_, refl));
-      value-40 = (refl, refl, refl, refl, refl, refl);
-      value-42 = refl;
-    }
-
 pub services-refused : ServicesRefused
 unfolding readService layoutFor readProperty readPropertyAck writeProperty whoIs iAm deviceRule errorOf targetParts present wanted numberRule objectRule optionalNumber afterGroup group last itemsOf walk step closes ending more headAt numberAt lengthAt twoAt fourAt firstRule firstContent contentsAt wholeAt signBad signedAt contextAt applicationAt least most valueAt longForm
 services-refused =
     record {
-      property-target = property-refused;
+      property-target = record {
+        object-40 = (refl, refl, refl, refl);
+        object-41 = (refl, refl, refl);
+        property-40 = (refl, refl, refl, refl, refl);
+        property-41 = (refl, refl, refl);
+        index-41 = (refl, refl, refl);
+      };
       property-good = ((_, refl), (_, refl), (_, refl), (_, refl), (_, refl));
       property-42 = (refl, refl, refl, refl);
-      ack-target = ack-refused;
-      ack-value = ack-value-refused;
+      ack-target = record {
+        object-40 = (refl, refl, refl, refl);
+        object-41 = (refl, refl, refl);
+        property-40 = (refl, refl, refl, refl, refl);
+        property-41 = (refl, refl, refl);
+        index-41 = (refl, refl, refl);
+      };
+      ack-value = record {
+        empty = ((_, refl), (_, refl), (_, refl));
+        value-40 = (refl, refl, refl, refl, refl, refl);
+        value-42 = refl;
+      };
       ack-42 = refl;
-      write-target = write-refused;
-      write-value = write-value-refused;
+      write-target = record {
+        object-40 = (refl, refl, refl, refl);
+        object-41 = (refl, refl, refl);
+        property-40 = (refl, refl, refl, refl, refl);
+        property-41 = (refl, refl, refl);
+        index-41 = (refl, refl, refl);
+      };
+      write-value = record {
+        empty = ((_, refl), (_, refl), (_, refl));
+        value-40 = (refl, refl, refl, refl, refl, refl);
+        value-42 = refl;
+      };
       priority-good = ((_, refl), (_, refl));
       priority-41 = (refl, refl, refl, refl);
       write-42 = (refl, refl, refl);
