@@ -25,12 +25,8 @@ use Rattle.items.specs.Grammar.{encodeAll, Balanced, AllValid, Grammar, 
 use Rattle.items.specs.OneItem.{Single}
 use Rattle.items.proofs.Machine.{more-records, more-good, never, walk-ends, walk-steps}
 
--- an item that is no opening and no closing
-abbrev pub Simple : Thing → Type 0
-Simple t = Single t
-
 -- what reading an item's own tag does
-pub simple-step : (rest : ℕ → List ℕ → Out) (at : ℕ) (groups : List ℕ) (t : Thing) → Simple t → step rest (tagOf at t) groups ≡ more (recordOf at (length groups) t ∷ []) (rest (at + length (encode t)) groups)
+pub simple-step : (rest : ℕ → List ℕ → Out) (at : ℕ) (groups : List ℕ) (t : Thing) → Single t → step rest (tagOf at t) groups ≡ more (recordOf at (length groups) t ∷ []) (rest (at + length (encode t)) groups)
 unfolding step tagOf recordOf
 simple-step rest at groups (application n xs) p = let e : at + length (encode (application n xs)) ≡ at + tagLength (application n xs) + length xs = omega (arith, encode-length (application n xs)) in rw e
 simple-step rest at groups (boolean v) p = let e : at + length (encode (boolean v)) ≡ at + tagLength (boolean v) + 0 = omega (arith, encode-length (boolean v)) in rw e
@@ -49,7 +45,7 @@ close-step rest at m groups n =
     let d : suc (length groups) - 1 ≡ length groups = omega arith in
     rw (e, d)
 
-pub simple-depth : (d : ℕ) (t : Thing) → Simple t → depthAfter d t ≡ d
+pub simple-depth : (d : ℕ) (t : Thing) → Single t → depthAfter d t ≡ d
 simple-depth d (application n xs) p = refl
 simple-depth d (boolean v) p = refl
 simple-depth d (context n xs) p = refl
@@ -71,7 +67,7 @@ module _ (s : List ℕ) (at : ℕ) (t : Thing) (ts : List Thing) (v : Valid t) (
   read-here : (k : ℕ) (groups : List ℕ) → walk (suc k) s at groups ≡ step (walk k s) (tagOf at t) groups
   read-here k groups = walk-steps k s at groups begins-here ∙ rw head-is
 
-  read-simple : (k : ℕ) (groups : List ℕ) → Simple t → walk k s (at + length (encode t)) groups ≡ good (recordsFrom (at + length (encode t)) (length groups) ts) (length s) → walk (suc k) s at groups ≡ good (recordsFrom at (length groups) (t ∷ ts)) (length s)
+  read-simple : (k : ℕ) (groups : List ℕ) → Single t → walk k s (at + length (encode t)) groups ≡ good (recordsFrom (at + length (encode t)) (length groups) ts) (length s) → walk (suc k) s at groups ≡ good (recordsFrom at (length groups) (t ∷ ts)) (length s)
   unfolding recordsFrom
   read-simple k groups p ih = read-here k groups ∙ rw (simple-step (walk k s) at groups t p, ih, simple-depth (length groups) t p, more-records)
 
@@ -133,7 +129,7 @@ module _ (s : List ℕ) (k : ℕ) (ih : (at : ℕ) (groups : List ℕ) (rs : Lis
           last = f .last;
         }
 
-    found-simple : Simple t → ((ts : List Thing) → Balanced k groups ts → Balanced (suc k) groups (t ∷ ts)) → step (walk k s) (tagOf at t) groups ≡ good rs end → Found (suc k) s at groups rs end
+    found-simple : Single t → ((ts : List Thing) → Balanced k groups ts → Balanced (suc k) groups (t ∷ ts)) → step (walk k s) (tagOf at t) groups ≡ good rs end → Found (suc k) s at groups rs end
     found-simple p b e = found-more groups (sym (simple-depth (length groups) t p)) b (sym (simple-step (walk k s) at groups t p) ∙ e)
 
   found-tag : (at : ℕ) (t : Thing) → Valid t → Has s at (encode t) → (groups : List ℕ) (rs : List Rec) (end : ℕ) → step (walk k s) (tagOf at t) groups ≡ good rs end → Found (suc k) s at groups rs end
