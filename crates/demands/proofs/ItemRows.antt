@@ -14,7 +14,7 @@ use Rattle.tags.specs.Types.{least, most}
 use Rattle.tags.specs.Reading.{numberAt, twoAt, fourAt, lengthAt, firstRule, firstContent, wholeAt, signBad, signedAt, contentsAt, contextAt, applicationAt, headAt}
 use Rattle.tags.specs.Layout.{Thing, Valid, encode, goodContents, highBits, numberOctets, lowBits, lengthOctets, tagLength}
 use Rattle.tags.specs.Layout.Thing.{application, opening}
-use Rattle.items.specs.Records.{recordOctets, recordsOctets}
+use Rattle.items.specs.Records.{Rec, recordOctets, recordsOctets}
 use Rattle.items.specs.Reading.{Out, more, ending, closes, step, walk, itemsOf, counted}
 use Rattle.items.specs.Reading.Out.{good, bad}
 use Rattle.items.specs.Grammar.{encodeAll, Balanced, AllValid, Grammar, recordOf, recordsFrom}
@@ -28,7 +28,7 @@ use Rattle.items.proofs.Exact.{reads, written}
 use Rattle.items.proofs.LeftToRight.{items-front}
 use Rattle.items.proofs.ListedRecords.{records-count, records-listed, listed-written}
 use Rattle.items.proofs.Rows.{rows-exact}
-use Rattle.demands.specs.ItemRows.{ItemRows, Verdict, ItemsOneRow, ItemsLeftToRight, ItemsRecords, ListedRecords, RecordsWorked, times, ItemsWorked, ItemsMost}
+use Rattle.demands.specs.ItemRows.{ItemRows, Verdict, ItemsOneRow, ItemsCount, ItemsLeftToRight, ItemsRecords, ListedRecords, RecordsWorked, times, ItemsWorked, ItemsMost}
 
 -- ---- the number that counting gives is the reading's
 refused-of : (q : Out) (x : ℕ) → counted q ≡ Tally.Refused x → q ≡ bad x
@@ -62,6 +62,26 @@ pub items-one-row : ItemsOneRow
 items-one-row o os =
     record { answer = numberOf (itemsOf o); allowed = verdict o os (itemsOf o) refl; same = λ x y a b. verdict-is o os x a ∙ sym (verdict-is o os y b) }
 
+-- ---- the count
+counted-of : (q : Out) (n : ℕ) → counted q ≡ Items n → (rs : List Rec) × (end : ℕ) × (q ≡ good rs end) × (length rs ≡ n)
+unfolding counted
+counted-of (good rs end) n e = (rs, end, refl, (let z : length rs ≡ n = cc in z))
+counted-of (bad x) n e = impossible (cc)
+
+things-counted : (o : List ℕ) → Octets o → (n : ℕ) → counted (itemsOf o) ≡ Items n → (ts : List Thing) × Grammar ts × (o ≡ encodeAll ts) × (length ts ≡ n)
+things-counted o os n e =
+    let z = counted-of (itemsOf o) n e in
+    let w = written o os (z .0) (z .1) (z .2) in
+    (w .things, w .grammar, w .octets, sym (records-count 0 0 (w .things)) ∙ sym (ap length (w .records)) ∙ z .3)
+
+counted-things : (ts : List Thing) → Grammar ts → counted (itemsOf (encodeAll ts)) ≡ Items (length ts)
+unfolding counted
+counted-things ts g = rw (reads ts g, records-count 0 0 ts)
+
+pub items-count : ItemsCount
+items-count o os n = (things-counted o os n, λ w. rw (w .2, ← w .3) (counted-things (w .0) (w .1)))
+
+-- ---- left to right
 pub items-left-to-right : ItemsLeftToRight
 items-left-to-right o more x short whole closed e = of-refused (itemsOf (o ++ more)) x (items-front o more x whole closed short (refused-of (itemsOf o) x e))
 
@@ -135,9 +155,8 @@ unfolding times
 times-octets zero x h = octets-none
 times-octets (suc n) x h = octets-more x (times n x) h (times-octets n x h)
 
-counts-nulls : (n : ℕ) → Grammar (nulls n) → counted (itemsOf (times n 0)) ≡ Items n
-unfolding counted
-counts-nulls n g = rw (← nulls-octets n, reads (nulls n) g, records-count 0 0 (nulls n), nulls-length n)
+nulls-counted : (n : ℕ) → Grammar (nulls n) → counted (itemsOf (times n 0)) ≡ Items n
+nulls-counted n g = rw (← nulls-octets n) (counted-things (nulls n) g ∙ rw (nulls-length n))
 
 nulls-grammar : Grammar (nulls 2048)
 nulls-grammar =
@@ -176,7 +195,7 @@ nulls-open =
 pub items-most : ItemsMost
 items-most =
     record {
-      most = counts-nulls 2048 nulls-grammar;
+      most = nulls-counted 2048 nulls-grammar;
       over = λ r os some short. item-rows (times 2048 0 ++ r) (octets-join (times 2048 0) r (times-octets 2048 0 (omega arith)) os) 38 .1 (nulls-over r some short);
       unclosed = item-rows (62 ∷ times 2047 0) (octets-more 62 (times 2047 0) (omega arith) (times-octets 2047 0 (omega arith))) 36 .1 nulls-open;
     }

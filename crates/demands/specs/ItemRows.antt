@@ -29,6 +29,10 @@ Verdict o x = ((x ≡ 0) × ((ts : List Thing) × Grammar ts × (o ≡ encodeAll
 abbrev pub ItemsOneRow : Type 0
 ItemsOneRow = (o : List ℕ) → Octets o → One ℕ (Verdict o)
 
+-- a run is counted as n items exactly when it is n good items with every group closed
+abbrev pub ItemsCount : Type 0
+ItemsCount = (o : List ℕ) → Octets o → (n : ℕ) → (counted (itemsOf o) ≡ Tally.Items n) ↔ ((ts : List Thing) × Grammar ts × (o ≡ encodeAll ts) × (length ts ≡ n))
+
 -- ---- "Octets are judged left to right": a number other than those of a missing octet (30, 36) stands, whatever follows within 16,384 octets
 abbrev pub ItemsLeftToRight : Type 0
 ItemsLeftToRight = (o more : List ℕ) (x : ℕ) → length (o ++ more) ≤ 16384 → (x ≡ 30 → ⊥) → (x ≡ 36 → ⊥)
