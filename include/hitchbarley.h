@@ -176,7 +176,7 @@ uint8_t hb_items_count(const uint8_t *octets, size_t octets_len, size_t *count);
 uint8_t hb_items_list(const uint8_t *octets, size_t octets_len, uint8_t *listed, size_t listed_len, size_t *count);
 
 /* Walking items: from place 0 hb_item_next or hb_item_step gives the place after one item, and after the whole group where it opens one, until the end. Both
-   judge 39 first, at the end too. At or past the end hb_item_next is 30 and hb_item_step is 0 with *next 0. A closing tag at the place is 35. To go into a group,
+   judge 39 first, at the end too (hb_item_step after 60). At or past the end hb_item_next is 30 and hb_item_step is 0 with *next 0. A closing tag at the place is 35. To go into a group,
    step on from the place in its opening's record (octets 4 to 7) until 35: that is its closing. 36 to 38 are of the one item with its group, depth and count
    beginning at the step's own place; hb_items_count judges all items together. */
 
