@@ -48,9 +48,9 @@ use Rattle.state.specs.Layout.{stateSize, stateOctets}
 use Rattle.state.specs.Calls.{stateGood, Loaded, loadOf, Loads}
 use Rattle.state.proofs.Exact.{loads-only, accepted}
 use Rattle.hitchbarley.specs.Trunk.{Left, barred, stateOf, bar, inside, feedBar, feedLeft, silenceBar, silenceLeft, forgotten, forgetLeft, Feeds, Stills, Forgets}
-use Rattle.hitchbarley.specs.Answers.{writtenNumber, writtenCount, Writes, FillsTo}
-use Rattle.hitchbarley.specs.Headers.{apduGood, apduNumber, npduFault, apduFault}
-use Rattle.hitchbarley.specs.Items.{tallyNumber, tallyCount, oneNumber, onePlace, stepGood, stepNumber}
+use Rattle.hitchbarley.specs.Answers.{writtenNumber, writtenCount, Writes, Fills, FillsTo}
+use Rattle.hitchbarley.specs.Headers.{apduGood, apduNumber, apduOctets, apduParams, npduFault, apduFault}
+use Rattle.hitchbarley.specs.Items.{tallyNumber, tallyCount, oneNumber, onePlace, stepGood, stepNumber, stepRecord, stepPlace}
 use Rattle.hitchbarley.specs.Services.{serviceGood, serviceNumber, serviceOctets, serviceFault}
 use Rattle.hitchbarley.proofs.Demand.{inside-is, feeds-carried, stills-carried, forgets-carried}
 use Rattle.demands.specs.Words.{SixtyThenFiftyNine, Broken, Four}
@@ -372,100 +372,119 @@ exported-forget state s r state′ os y = forget-by state s r state′ os y (jud
 below-60 : (n m : ℕ) → n ≤ m → m ≤ 59 → n ≡ 60 → ⊥
 below-60 n m h k z = omega arith
 
-above-0 : (n m : ℕ) → m ≤ n → 1 ≤ m → n ≡ 0 → ⊥
-above-0 n m h k z = omega arith
-
--- ---- readers: what the answer of the call below says
-record Judges (good : Bool) (f : ℕ) (Some : Type 0) : Type 0 where
+-- ---- readers: what the answer of the call below says. good: something was read; f: its number
+record Judges (good : Bool) (f : ℕ) : Type 0 where
   not-sixty : f ≡ 60 → ⊥
-  so : good ≡ true → (f ≡ 0) × Some
-  not : good ≡ false → f ≡ 0 → Some → ⊥
+  so : good ≡ true → f ≡ 0
 
-module _ (size : ℕ) (good : Bool) (f : ℕ) (area : List ℕ) (r : ℕ) (Some Kept Filled : Type 0) (j : Judges good f Some)
-    (number : r ≡ pick (eqb (length area) size) f 60)
-    (kept : (eqb (length area) size ≡ false) ⊎ ((eqb (length area) size ≡ true) × (good ≡ false)) → Kept)
-    (filled : eqb (length area) size ≡ true → good ≡ true → Filled) where
-  reads-other : eqb (length area) size ≡ false → ReadsInto size f area r Some Kept Filled
-  reads-other e =
-      let n = eqb-false (length area) size e in
-      let z : r ≡ 60 = rw e at number in
-      record { sixty = (λ _. n, λ _. z); below = λ k. absurd (n k); refused = λ _. kept (inl e); nothing = λ _. kept (inl e); filled = λ q _. differ 60 0 refl z q }
+module _ {size : ℕ} {good : Bool} {f : ℕ} {o area : List ℕ} {r : ℕ} {later : List ℕ} (y : Fills size good f o area r later) where
+  -- in an area of its size: the number below; the record, where something was read
+  number-below : length area ≡ size → r ≡ f
+  number-below n = rw (eq-eqb (length area) size n) at (y .number)
 
-  reads-sized : eqb (length area) size ≡ true → ReadsInto size f area r Some Kept Filled
-  reads-sized e =
+  record-below : length area ≡ size → good ≡ true → later ≡ o
+  record-below n g = rw (eq-eqb (length area) size n, g) at (y .after)
+
+  -- in one of another size 60, and as it was; as it was too where nothing was read
+  number-other : eqb (length area) size ≡ false → r ≡ 60
+  number-other e = rw e at (y .number)
+
+  area-other : eqb (length area) size ≡ false → later ≡ area
+  area-other e = rw e at (y .after)
+
+  area-kept : good ≡ false → later ≡ area
+  area-kept g = by-test (eqb (length area) size) (λ e. rw (e, g) at (y .after)) area-other
+
+  reads-into : (Kept Below : Type 0) → Judges good f → (eqb (length area) size ≡ false → Kept) → (good ≡ false → Kept)
+      → (length area ≡ size → Below) → ReadsInto size area r Kept Below
+  reads-into Kept Below j unsized kept below =
+      by-test (eqb (length area) size)
+      (λ e.
       let n = eqb-true (length area) size e in
-      let z : r ≡ f = rw e at number in
-      by-test good
-      (λ g.
-      let s = j .so g in
+      let z = number-below n in
       record {
         sixty = (λ q. absurd (j .not-sixty (sym z ∙ q)), λ k. absurd (k n));
-        below = λ _. z;
-        refused = λ k. absurd (k (z ∙ s .0));
-        nothing = λ k. absurd (k (s .1));
-        filled = λ _ _. filled e g;
+        refused = λ k. by-test good (λ g. absurd (k (z ∙ j .so g))) kept;
+        below = below;
       })
-      (λ g.
-      record {
-        sixty = (λ q. absurd (j .not-sixty (sym z ∙ q)), λ k. absurd (k n));
-        below = λ _. z;
-        refused = λ _. kept (inr (e, g));
-        nothing = λ _. kept (inr (e, g));
-        filled = λ q x. absurd (j .not g (sym z ∙ q) x);
-      })
+      (λ e.
+      let n = eqb-false (length area) size e in
+      record { sixty = (λ _. n, λ _. number-other e); refused = λ _. unsized e; below = λ k. absurd (n k) })
 
-  reads-into : ReadsInto size f area r Some Kept Filled
-  reads-into = by-test (eqb (length area) size) reads-sized reads-other
+-- with a place
+module _ {size : ℕ} {good : Bool} {f : ℕ} {o : List ℕ} {place : ℕ} {area : List ℕ} {r next : ℕ} {later : List ℕ}
+    (y : FillsTo size good f o place area r next later) where
+  place-below : length area ≡ size → good ≡ true → next ≡ place
+  place-below n g = rw (eq-eqb (length area) size n, g) at (y .reached)
 
-fills-into : (size : ℕ) (good : Bool) (f : ℕ) (o : List ℕ) (place : ℕ) (area : List ℕ) (r next : ℕ) (later : List ℕ) (Some : Type 0) → Judges good f Some
-    → FillsTo size good f o place area r next later → ReadsInto size f area r Some ((later ≡ area) × (next ≡ 0)) ((later ≡ o) × (next ≡ place))
-fills-into size good f o place area r next later Some j y =
-    reads-into size good f area r Some ((later ≡ area) × (next ≡ 0)) ((later ≡ o) × (next ≡ place)) j (y .filled .number)
-    (⊎-elim (λ e. (rw e at (y .filled .after), rw e at (y .reached))) (λ q. (rw (q .0, q .1) at (y .filled .after), rw (q .0, q .1) at (y .reached))))
-    (λ e g. (rw (e, g) at (y .filled .after), rw (e, g) at (y .reached)))
+  place-other : eqb (length area) size ≡ false → next ≡ 0
+  place-other e = rw e at (y .reached)
 
-npdu-judges : (s : List ℕ) → Judges (eqb (readNpdu s .refused) 0) (readNpdu s .refused) Unit
+  place-kept : good ≡ false → next ≡ 0
+  place-kept g = by-test (eqb (length area) size) (λ e. rw (e, g) at (y .reached)) place-other
+
+  reads-to : (Below : Type 0) → Judges good f → (length area ≡ size → Below) → ReadsInto size area r ((later ≡ area) × (next ≡ 0)) Below
+  reads-to Below j below =
+      reads-into (y .filled) ((later ≡ area) × (next ≡ 0)) Below j (λ e. (area-other (y .filled) e, place-other e)) (λ g. (area-kept (y .filled) g, place-kept g)) below
+
+npdu-judges : (s : List ℕ) → Judges (eqb (readNpdu s .refused) 0) (readNpdu s .refused)
 npdu-judges s =
-    record {
-      not-sixty = λ z. ⊎-elim (λ e. differ 0 60 refl e z) (λ q. absurd (omega (arith, q .0 .1))) (network-numbers s);
-      so = λ g. (eqb-true _ _ g, tt);
-      not = λ g z x. eqb-false _ _ g z;
-    }
+    record { not-sixty = λ z. ⊎-elim (λ e. differ 0 60 refl e z) (λ q. absurd (omega (arith, q .0 .1))) (network-numbers s); so = λ g. eqb-true _ _ g }
 
 pub exported-npdu-read : ExportedNpduRead
-exported-npdu-read s fields r next fields′ y = fills-into npduSize _ _ _ _ fields r next fields′ Unit (npdu-judges s) y
+exported-npdu-read s fields r next fields′ y =
+    reads-to y _ (npdu-judges s)
+    (λ n. (number-below (y .filled) n, λ z. (let g = eq-eqb _ _ z in (record-below (y .filled) n g, place-below y n g))))
 
-apdu-judges : (a : HeaderAnswer) → ((n : ℕ) → a ≡ HeaderIs.Refused n → (20 ≤ n) × (n ≤ 24)) → Judges (apduGood a) (apduNumber a) Unit
-apdu-judges (HeaderIs.Good p) h = record { not-sixty = λ z. differ 0 60 refl refl z; so = λ g. (refl, tt); not = λ g z x. not-so (sym g) }
-apdu-judges (HeaderIs.Refused n) h =
-    let q = h n refl in
-    record { not-sixty = λ z. below-60 n 24 (q .1) (omega arith) z; so = λ g. not-so g; not = λ g z x. above-0 n 20 (q .0) (omega arith) z }
+apdu-judges : (a : HeaderAnswer) → ((n : ℕ) → a ≡ HeaderIs.Refused n → (20 ≤ n) × (n ≤ 24)) → Judges (apduGood a) (apduNumber a)
+apdu-judges (HeaderIs.Good p) h = record { not-sixty = λ z. differ 0 60 refl refl z; so = λ g. refl }
+apdu-judges (HeaderIs.Refused n) h = record { not-sixty = λ z. below-60 n 24 (h n refl .1) (omega arith) z; so = λ g. not-so g }
 
 pub exported-apdu-read : ExportedApduRead
-exported-apdu-read s fields r next fields′ y = fills-into apduSize _ _ _ _ fields r next fields′ Unit (apdu-judges (readApdu s) (header-numbers s)) y
+exported-apdu-read s fields r next fields′ y =
+    reads-to y _ (apdu-judges (readApdu s) (header-numbers s))
+    (λ n.
+    let number = number-below (y .filled) n in (
+      λ x e. number ∙ ap apduNumber e,
+      λ p e.
+          let g = ap apduGood e in
+          (number ∙ ap apduNumber e, record-below (y .filled) n g ∙ ap apduOctets e, place-below y n g ∙ ap apduParams e),
+    ))
 
-step-judges : (x : Step) → ((n : ℕ) → x ≡ Step.Refused n → (30 ≤ n) × (n ≤ 39)) → Judges (stepGood x) (stepNumber x) (x ≡ Step.End → ⊥)
-step-judges (Step.Item k n v p l to) h = record { not-sixty = λ z. differ 0 60 refl refl z; so = λ g. (refl, λ e. impossible (cc)); not = λ g z e. not-so (sym g) }
-step-judges (Step.Group n p to) h = record { not-sixty = λ z. differ 0 60 refl refl z; so = λ g. (refl, λ e. impossible (cc)); not = λ g z e. not-so (sym g) }
-step-judges Step.End h = record { not-sixty = λ z. differ 0 60 refl refl z; so = λ g. not-so g; not = λ g z e. e refl }
-step-judges (Step.Refused n) h =
-    let q = h n refl in
-    record { not-sixty = λ z. below-60 n 39 (q .1) (omega arith) z; so = λ g. not-so g; not = λ g z e. above-0 n 30 (q .0) (omega arith) z }
+step-judges : (x : Step) → ((n : ℕ) → x ≡ Step.Refused n → (30 ≤ n) × (n ≤ 39)) → Judges (stepGood x) (stepNumber x)
+step-judges (Step.Item k n v p l to) h = record { not-sixty = λ z. differ 0 60 refl refl z; so = λ g. refl }
+step-judges (Step.Group n p to) h = record { not-sixty = λ z. differ 0 60 refl refl z; so = λ g. refl }
+step-judges Step.End h = record { not-sixty = λ z. differ 0 60 refl refl z; so = λ g. refl }
+step-judges (Step.Refused n) h = record { not-sixty = λ z. below-60 n 39 (h n refl .1) (omega arith) z; so = λ g. not-so g }
 
 pub exported-step : ExportedStep
-exported-step s at item r next item′ y = fills-into 12 _ _ _ _ item r next item′ _ (step-judges (stepOf s at) (item-numbers s at .2)) y
+exported-step s at item r next item′ y =
+    reads-to y _ (step-judges (stepOf s at) (item-numbers s at .2))
+    (λ n.
+    let number = number-below (y .filled) n in (
+      λ x e. number ∙ ap stepNumber e,
+      λ k m v p l to e.
+          let g = ap stepGood e in
+          (number ∙ ap stepNumber e, record-below (y .filled) n g ∙ ap stepRecord e, place-below y n g ∙ ap stepPlace e),
+      λ m p to e.
+          let g = ap stepGood e in
+          (number ∙ ap stepNumber e, record-below (y .filled) n g ∙ ap stepRecord e, place-below y n g ∙ ap stepPlace e),
+      λ e.
+          let g = ap stepGood e in
+          (number ∙ ap stepNumber e, area-kept (y .filled) g, place-kept y g),
+    ))
 
-service-judges : (a : ServiceAnswer) → AnswerHas (λ n. (30 ≤ n) × (n ≤ 43)) a → Judges (serviceGood a) (serviceNumber a) Unit
-service-judges (ServiceIs.Good v) h = record { not-sixty = λ z. differ 0 60 refl refl z; so = λ g. (refl, tt); not = λ g z x. not-so (sym g) }
-service-judges (ServiceIs.Refused n) h =
-    record { not-sixty = λ z. below-60 n 43 (h .1) (omega arith) z; so = λ g. not-so g; not = λ g z x. above-0 n 30 (h .0) (omega arith) z }
+service-judges : (a : ServiceAnswer) → AnswerHas (λ n. (30 ≤ n) × (n ≤ 43)) a → Judges (serviceGood a) (serviceNumber a)
+service-judges (ServiceIs.Good v) h = record { not-sixty = λ z. differ 0 60 refl refl z; so = λ g. refl }
+service-judges (ServiceIs.Refused n) h = record { not-sixty = λ z. below-60 n 43 (h .1) (omega arith) z; so = λ g. not-so g }
 
 pub exported-service-read : ExportedServiceRead
 exported-service-read kind choice s fields r fields′ y =
-    let a = readService kind choice s in
-    reads-into serviceSize (serviceGood a) (serviceNumber a) fields r Unit (fields′ ≡ fields) (fields′ ≡ serviceOctets a)
-    (service-judges (readService kind choice s) (read-has (λ n. (30 ≤ n) × (n ≤ 43)) (λ n low high. (low, high)) kind choice s)) (y .number)
-    (⊎-elim (λ e. rw e at (y .after)) (λ q. rw (q .0, q .1) at (y .after))) (λ e g. rw (e, g) at (y .after))
+    reads-into y (fields′ ≡ fields) _
+    (service-judges (readService kind choice s) (read-has (λ n. (30 ≤ n) × (n ≤ 43)) (λ n low high. (low, high)) kind choice s)) (area-other y) (area-kept y)
+    (λ n.
+    let number = number-below y n in
+    (λ x e. number ∙ ap serviceNumber e, λ v e. (number ∙ ap serviceNumber e, record-below y n (ap serviceGood e) ∙ ap serviceOctets e)))
 
 -- ---- items
 pub exported-count : ExportedCount
@@ -475,7 +494,12 @@ exported-count s r count y = (
 )
 
 pub exported-list : ExportedList
-exported-list s area r count later y = (listedOf (length area) (itemsOf s), record { answer = refl; after = y .after }, y .number, y .items)
+exported-list s area r count later y = (
+  listedOf (length area) (itemsOf s),
+  record { answer = refl; after = y .after },
+  λ n e. (y .number ∙ ap tallyNumber e, y .items ∙ ap tallyCount e),
+  λ x e. (y .number ∙ ap tallyNumber e, y .items ∙ ap tallyCount e),
+)
 
 pub exported-next : ExportedNext
 exported-next s at r next y = (

@@ -25,3 +25,5 @@ pub mod ServicesBack
 pub mod ReportsWorked
 pub mod RecordOctets
 pub mod ServiceRows
+pub mod WriterRows
+pub mod ServicesWorked

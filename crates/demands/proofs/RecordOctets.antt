@@ -4,7 +4,7 @@ use Rattle.octets.specs.Numbers.{valueAt}
 use Rattle.records.specs.Network.{npduRecord, npduAt}
 use Rattle.records.specs.Application.{segmentAt, apduAt}
 use Rattle.records.specs.Service.{serviceRecord, serviceOf, serviceAt}
-use Rattle.demands.specs.RecordOctets.{NetworkRecords, HeaderRecords, ServiceRecords}
+use Rattle.demands.specs.RecordOctets.{NetworkRecords, HeaderRecords, ServiceRecords, NetworkTaken, HeadersTaken, ServicesTaken}
 
 pub network-records : NetworkRecords
 unfolding npduRecord npduAt
@@ -45,3 +45,15 @@ service-records =
       i-am = record { there = refl; back = refl };
       error = record { there = refl; back = refl };
     }
+
+pub network-taken : NetworkTaken
+unfolding npduAt
+network-taken = record { flags = refl; none = refl }
+
+pub headers-taken : HeadersTaken
+unfolding apduAt segmentAt
+headers-taken = record { request = refl; unconfirmed = refl; simple = refl; complex = refl; segment-ack = refl; error = refl; reject = refl; abort = refl }
+
+pub services-taken : ServicesTaken
+unfolding serviceAt serviceOf valueAt
+services-taken = record { read = refl; ack = refl; write = refl; who-is = refl; i-am = refl; error = refl }

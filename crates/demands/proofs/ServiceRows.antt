@@ -62,7 +62,7 @@ services-refused =
         property-41 = (refl, refl, refl);
         index-41 = (refl, refl, refl);
       };
-      property-good = ((_, refl), (_, refl), (_, refl), (_, refl), (_, refl));
+      property-good = ((_, refl), (_, refl), (_, refl), (_, refl), (_, refl), (_, refl));
       property-42 = (refl, refl, refl, refl);
       ack-target = record {
         object-40 = (refl, refl, refl, refl);
@@ -72,7 +72,7 @@ services-refused =
         index-41 = (refl, refl, refl);
       };
       ack-value = record {
-        empty = ((_, refl), (_, refl), (_, refl));
+        empty = ((_, refl), (_, refl), (_, refl), (_, refl));
         value-40 = (refl, refl, refl, refl, refl, refl);
         value-42 = refl;
       };
@@ -85,18 +85,18 @@ services-refused =
         index-41 = (refl, refl, refl);
       };
       write-value = record {
-        empty = ((_, refl), (_, refl), (_, refl));
+        empty = ((_, refl), (_, refl), (_, refl), (_, refl));
         value-40 = (refl, refl, refl, refl, refl, refl);
         value-42 = refl;
       };
       priority-good = ((_, refl), (_, refl));
-      priority-41 = (refl, refl, refl, refl);
+      priority-41 = (refl, refl, refl, refl, refl);
       write-42 = (refl, refl, refl);
       limits-good = ((_, refl), (_, refl), (_, refl), (_, refl));
       limits-42 = (refl, refl, refl);
-      low-41 = (refl, refl, refl);
+      low-41 = (refl, refl, refl, refl);
       high-40 = (refl, refl, refl, refl);
-      high-41 = (refl, refl, refl, refl);
+      high-41 = (refl, refl, refl, refl, refl);
       high-42 = refl;
       am-good = ((_, refl), (_, refl), (_, refl));
       device-40 = (refl, refl, refl);

@@ -171,6 +171,7 @@ NetworkWriterNumbers = (h : Npdu) → (NetworkFault.faultOf h ≡ 0) ⊎ Between
 abbrev pub HeaderWriterNumbers : Type 0
 HeaderWriterNumbers = (p : Pdu) → (HeaderFault.faultOf p ≡ 0) ⊎ Between 22 23 (HeaderFault.faultOf p)
 
+-- each exactly when: ServiceWriterRows (specs/WriterRows)
 abbrev pub ServiceWriterNumbers : Type 0
 ServiceWriterNumbers = (v : Service) (value : List ℕ) → (ServiceFault.faultOf v value ≡ 0) ⊎ Between 30 42 (ServiceFault.faultOf v value)
 

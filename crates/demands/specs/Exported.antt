@@ -14,11 +14,14 @@ use Rattle.npdu.specs.Reading.{readNpdu}
 use Rattle.npdu.specs.Layout as Network
 use Rattle.npdu.specs.Fault as NetworkFault
 use Rattle.apdu.specs.Reading.{readApdu}
+use Rattle.apdu.specs.Fields.{paramsAt}
 use Rattle.apdu.specs.Layout as Header
 use Rattle.apdu.specs.Fault as HeaderFault
+use Rattle.apdu.specs.declared.Answer.the-variants as ApduAnswer
+use Rattle.apdu.specs.declared.Pdu.{Pdu}
 use Rattle.items.specs.Grammar as Items
 use Rattle.items.specs.Reading.{itemsOf, counted, oneAt, endOf}
-use Rattle.items.specs.Records.{thingsOf}
+use Rattle.items.specs.Records.{rec, recordOctets, thingsOf}
 use Rattle.items.specs.Listing.{Listed}
 use Rattle.items.specs.declared.Tally.{Tally}
 use Rattle.items.specs.declared.One as OneItem
@@ -26,6 +29,8 @@ use Rattle.item_judge.specs.Judge.{writeFault, recordsIn}
 use Rattle.reader.specs.Reading.{stepOf}
 use Rattle.reader.specs.declared.Step.the-variants as Step
 use Rattle.services.specs.Reading.{readService}
+use Rattle.services.specs.declared.Answer.the-variants as ServiceAnswer
+use Rattle.services.specs.declared.Service.{Service}
 use Rattle.service_writer.specs.Layout as ServiceWriter
 use Rattle.service_writer.specs.Fault as ServiceFault
 use Rattle.messages.specs.Slots.{slotAt}
@@ -38,14 +43,14 @@ use Rattle.collector.specs.declared.Fell.{Fell}
 use Rattle.collector.specs.declared.Forgot.{Forgot}
 use Rattle.records.specs.Flag.{flag}
 use Rattle.records.specs.Network.{npduSize, npduRecord, npduAt}
-use Rattle.records.specs.Application.{apduSize, apduAt}
-use Rattle.records.specs.Service.{serviceSize, serviceAt}
+use Rattle.records.specs.Application.{apduSize, apduRecord, apduAt}
+use Rattle.records.specs.Service.{serviceSize, serviceRecord, serviceAt}
 use Rattle.state.specs.Layout.{stateSize, stateOctets}
 use Rattle.state.specs.Calls.{Loads, Saves}
 use Rattle.hitchbarley.specs.Trunk as Trunk
 use Rattle.hitchbarley.specs.Answers.{Writes, Fills, FillsTo}
 use Rattle.hitchbarley.specs.Headers.{apduGood, apduNumber, apduOctets, apduParams, npduFault, apduFault}
-use Rattle.hitchbarley.specs.Items.{tallyNumber, tallyCount, Counts, Lists, Steps, stepGood, stepNumber, stepRecord, stepPlace}
+use Rattle.hitchbarley.specs.Items.{Counts, Lists, Steps, stepGood, stepNumber, stepRecord, stepPlace}
 use Rattle.hitchbarley.specs.Services.{serviceGood, serviceNumber, serviceOctets, serviceFault}
 use Rattle.demands.specs.Words.{One, SixtyThenFiftyNine, Broken, AcceptedBack, WholeBack}
 
@@ -111,39 +116,46 @@ pub record ForgetCall (state : List ℕ) (s r : ℕ) (state′ : List ℕ) : Typ
 abbrev pub ExportedForget : Type 0
 ExportedForget = (state : List ℕ) (s r : ℕ) (state′ : List ℕ) → Octets state → Trunk.Forgets state s r state′ → ForgetCall state s r state′
 
--- ---- readers into a record area of its size: 60 exactly for another size, else the number n of the call below; Filled where that read something, which
--- Some says, and Kept else
-pub record ReadsInto (size n : ℕ) (area : List ℕ) (r : ℕ) (Some Kept Filled : Type 0) : Type 0 where
+-- ---- readers into a record area of its size: 60 exactly for another size; a refusal leaves what Kept says; Below is the rest, by the answer of the call below
+pub record ReadsInto (size : ℕ) (area : List ℕ) (r : ℕ) (Kept Below : Type 0) : Type 0 where
   pub sixty : (r ≡ 60) ↔ (length area ≡ size → ⊥)
-  pub below : length area ≡ size → r ≡ n
   pub refused : (r ≡ 0 → ⊥) → Kept
-  pub nothing : (Some → ⊥) → Kept
-  pub filled : r ≡ 0 → Some → Filled
+  pub below : length area ≡ size → Below
 
+-- the network header's number, which is 0 where it was read
 abbrev pub ExportedNpduRead : Type 0
 ExportedNpduRead = (s fields : List ℕ) (r next : ℕ) (fields′ : List ℕ)
     → (let h = readNpdu s in
     FillsTo npduSize (eqb (h .refused) 0) (h .refused) (npduRecord (h .head)) (h .next) fields r next fields′
-    → ReadsInto npduSize (h .refused) fields r Unit ((fields′ ≡ fields) × (next ≡ 0)) ((fields′ ≡ npduRecord (h .head)) × (next ≡ h .next)))
+    → ReadsInto 29 fields r ((fields′ ≡ fields) × (next ≡ 0)) ((r ≡ h .refused) × (h .refused ≡ 0 → (fields′ ≡ npduRecord (h .head)) × (next ≡ h .next))))
 
+-- a refused APDU has the refusal's number, a good one its header's record and the place of its parameters
 abbrev pub ExportedApduRead : Type 0
 ExportedApduRead = (s fields : List ℕ) (r next : ℕ) (fields′ : List ℕ)
     → (let a = readApdu s in
     FillsTo apduSize (apduGood a) (apduNumber a) (apduOctets a) (apduParams a) fields r next fields′
-    → ReadsInto apduSize (apduNumber a) fields r Unit ((fields′ ≡ fields) × (next ≡ 0)) ((fields′ ≡ apduOctets a) × (next ≡ apduParams a)))
+    → ReadsInto 12 fields r ((fields′ ≡ fields) × (next ≡ 0))
+    (((x : ℕ) → a ≡ ApduAnswer.Refused x → r ≡ x)
+    × ((p : Pdu) → a ≡ ApduAnswer.Good p → (r ≡ 0) × (fields′ ≡ apduRecord p) × (next ≡ paramsAt p))))
 
--- the reader's step: at the end nothing is read, which is no refusal
+-- the reader's step: an item has its record, at depth 0, and a group its opening's, with the place after it; at the end nothing is read, which is no refusal
 abbrev pub ExportedStep : Type 0
 ExportedStep = (s : List ℕ) (at : ℕ) (item : List ℕ) (r next : ℕ) (item′ : List ℕ)
-    → (let x = stepOf s at in
-    FillsTo 12 (stepGood x) (stepNumber x) (stepRecord x) (stepPlace x) item r next item′
-    → ReadsInto 12 (stepNumber x) item r (x ≡ Step.End → ⊥) ((item′ ≡ item) × (next ≡ 0)) ((item′ ≡ stepRecord x) × (next ≡ stepPlace x)))
+    → (let a = stepOf s at in
+    FillsTo 12 (stepGood a) (stepNumber a) (stepRecord a) (stepPlace a) item r next item′
+    → ReadsInto 12 item r ((item′ ≡ item) × (next ≡ 0))
+    (((x : ℕ) → a ≡ Step.Refused x → r ≡ x)
+    × ((k n v p l to : ℕ) → a ≡ Step.Item k n v p l to → (r ≡ 0) × (item′ ≡ recordOctets (rec k n 0 v p l)) × (next ≡ to))
+    × ((n p to : ℕ) → a ≡ Step.Group n p to → (r ≡ 0) × (item′ ≡ recordOctets (rec 2 n 0 0 p 0)) × (next ≡ to))
+    × (a ≡ Step.End → (r ≡ 0) × (item′ ≡ item) × (next ≡ 0))))
 
+-- refused parameters have the refusal's number, good ones their service's record
 abbrev pub ExportedServiceRead : Type 0
 ExportedServiceRead = (kind choice : ℕ) (s fields : List ℕ) (r : ℕ) (fields′ : List ℕ)
     → (let a = readService kind choice s in
     Fills serviceSize (serviceGood a) (serviceNumber a) (serviceOctets a) fields r fields′
-    → ReadsInto serviceSize (serviceNumber a) fields r Unit (fields′ ≡ fields) (fields′ ≡ serviceOctets a))
+    → ReadsInto 26 fields r (fields′ ≡ fields)
+    (((x : ℕ) → a ≡ ServiceAnswer.Refused x → r ≡ x) × ((v : Service) → a ≡ ServiceAnswer.Good v → (r ≡ 0) × (fields′ ≡ serviceRecord v))))
 
 -- ---- counting, listing and stepping over an item: the answer of the call below as its number and what it gives back, 0 with a refusal
 abbrev pub ExportedCount : Type 0
@@ -151,10 +163,12 @@ ExportedCount = (s : List ℕ) (r count : ℕ) → Counts s r count
     → ((n : ℕ) → counted (itemsOf s) ≡ Tally.Items n → (r ≡ 0) × (count ≡ n))
     × ((x : ℕ) → counted (itemsOf s) ≡ Tally.Refused x → (r ≡ x) × (count ≡ 0))
 
--- the listing is the one of which ListingRefuses speaks
+-- the listing is the one of which ListingRefuses and ListedRecords speak
 abbrev pub ExportedList : Type 0
 ExportedList = (s area : List ℕ) (r count : ℕ) (later : List ℕ) → Lists s area r count later
-    → (t : Tally) × Listed s area t later × (r ≡ tallyNumber t) × (count ≡ tallyCount t)
+    → (t : Tally) × Listed s area t later
+    × ((n : ℕ) → t ≡ Tally.Items n → (r ≡ 0) × (count ≡ n))
+    × ((x : ℕ) → t ≡ Tally.Refused x → (r ≡ x) × (count ≡ 0))
 
 abbrev pub ExportedNext : Type 0
 ExportedNext = (s : List ℕ) (at r next : ℕ) → Steps s at r next
@@ -173,14 +187,14 @@ pub record WritesFrom (Sized : Type 0) (f : ℕ) (o area : List ℕ) (r wrote : 
 abbrev pub ExportedNpduWrite : Type 0
 ExportedNpduWrite = (fields area : List ℕ) (r wrote : ℕ) (later : List ℕ)
     → (let o = Network.encode (npduAt fields) in
-    Writes (npduFault fields) o area r wrote later → WritesFrom (length fields ≡ npduSize) (NetworkFault.faultOf (npduAt fields)) o area r wrote later)
+    Writes (npduFault fields) o area r wrote later → WritesFrom (length fields ≡ 29) (NetworkFault.faultOf (npduAt fields)) o area r wrote later)
 
 -- 21: a type above 7
 abbrev pub ExportedApduWrite : Type 0
 ExportedApduWrite = (fields area : List ℕ) (r wrote : ℕ) (later : List ℕ)
     → (let o = Header.header (apduAt fields) in
     Writes (apduFault fields) o area r wrote later
-    → WritesFrom (length fields ≡ apduSize) (pick (leb (oct fields 0) 7) (HeaderFault.faultOf (apduAt fields)) 21) o area r wrote later)
+    → WritesFrom (length fields ≡ 12) (pick (leb (oct fields 0) 7) (HeaderFault.faultOf (apduAt fields)) 21) o area r wrote later)
 
 -- 62 is all that is said of the records, so 60 is never given
 abbrev pub ExportedItemsWrite : Type 0
@@ -193,7 +207,7 @@ abbrev pub ExportedServiceWrite : Type 0
 ExportedServiceWrite = (fields value area : List ℕ) (r wrote : ℕ) (later : List ℕ)
     → (let o = ServiceWriter.octetsOf (serviceAt fields) value in
     Writes (serviceFault fields value) o area r wrote later
-    → WritesFrom (length fields ≡ serviceSize) (pick (leb (oct fields 0) 5) (ServiceFault.faultOf (serviceAt fields) value) 43) o area r wrote later)
+    → WritesFrom (length fields ≡ 26) (pick (leb (oct fields 0) 5) (ServiceFault.faultOf (serviceAt fields) value) 43) o area r wrote later)
 
 -- what hb_service_write wrote reads back, for the kind and choice of the record's service: ServicesReadBack over records
 abbrev pub ExportedServiceBack : Type 0

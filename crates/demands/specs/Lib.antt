@@ -14,3 +14,5 @@ pub mod Exported
 pub mod ReportsWorked
 pub mod RecordOctets
 pub mod ServiceRows
+pub mod WriterRows
+pub mod ServicesWorked

@@ -4,10 +4,12 @@ use mathlib.Core.Path.{_≡_}
 use mathlib.Core.Bool.{Bool, true, false}
 use mathlib.Core.List.{List, [], _∷_}
 use Rattle.npdu.specs.declared.Npdu.{Npdu}
+use Rattle.apdu.specs.declared.Segment.{Segment}
 use Rattle.apdu.specs.declared.Pdu.{Pdu}
 use Rattle.apdu.specs.declared.Pdu.the-variants as Pdus
 use Rattle.services.specs.declared.Service.{Service}
 use Rattle.services.specs.declared.Service.the-variants as Services
+use Rattle.services.specs.declared.Span.{Span}
 use Rattle.services.specs.declared.Target.{Target}
 use Rattle.records.specs.Network.{npduRecord, npduAt}
 use Rattle.records.specs.Application.{apduRecord, apduAt}
@@ -86,3 +88,42 @@ pub record ServiceRecords : Type 0 where
   pub who-is : ServiceIs (Services.WhoIs (record { limited = true; low = 0x030405; high = 0x060708 })) (3 ∷ 1 ∷ 0 ∷ 0 ∷ 0 ∷ 3 ∷ 4 ∷ 5 ∷ 0 ∷ 6 ∷ 7 ∷ 8 ∷ 0 ∷ 0 ∷ 0 ∷ 0 ∷ 0 ∷ 0 ∷ 0 ∷ 0 ∷ 0 ∷ 0 ∷ 0 ∷ 0 ∷ 0 ∷ 0 ∷ [])
   pub i-am : ServiceIs (Services.IAm (record { instance = 0x030405; longest = 0x06070809; segmentation = 2; vendor = 0x0A0B })) (4 ∷ 2 ∷ 10 ∷ 11 ∷ 0 ∷ 3 ∷ 4 ∷ 5 ∷ 6 ∷ 7 ∷ 8 ∷ 9 ∷ 0 ∷ 0 ∷ 0 ∷ 0 ∷ 0 ∷ 0 ∷ 0 ∷ 0 ∷ 0 ∷ 0 ∷ 0 ∷ 0 ∷ 0 ∷ 0 ∷ [])
   pub error : ServiceIs (Services.Error (record { class = 0x02030405; code = 0x06070809 })) (5 ∷ 0 ∷ 0 ∷ 0 ∷ 2 ∷ 3 ∷ 4 ∷ 5 ∷ 6 ∷ 7 ∷ 8 ∷ 9 ∷ 0 ∷ 0 ∷ 0 ∷ 0 ∷ 0 ∷ 0 ∷ 0 ∷ 0 ∷ 0 ∷ 0 ∷ 0 ∷ 0 ∷ 0 ∷ 0 ∷ [])
+
+-- ---- records as a caller may fill them: "Any flag but 0 is set", "What the kind of PDU lacks is not looked at"; every octet is set, each with a value of its own
+abbrev pub headerOctets : ℕ → List ℕ
+headerOctets kind = kind ∷ 0xFF ∷ 2 ∷ 3 ∷ 4 ∷ 5 ∷ 6 ∷ 7 ∷ 8 ∷ 9 ∷ 10 ∷ 11 ∷ []
+
+abbrev pub serviceOctets : ℕ → List ℕ
+serviceOctets sort = sort ∷ 2 ∷ 3 ∷ 4 ∷ 5 ∷ 6 ∷ 7 ∷ 8 ∷ 9 ∷ 10 ∷ 11 ∷ 12 ∷ 13 ∷ 14 ∷ 15 ∷ 16 ∷ 17 ∷ 18 ∷ 19 ∷ 20 ∷ 21 ∷ 22 ∷ 23 ∷ 24 ∷ 25 ∷ 26 ∷ []
+
+-- the segment's part and the target that these octets are, with the value's place and length
+abbrev pub segment : Segment
+segment = record { seg = true; mor = true; number = 8; window = 9 }
+
+abbrev pub pointed : Target
+pointed = record { object = 0x0304; instance = 0x05060708; property = 0x090A0B0C; indexed = true; index = 0x0D0E0F10 }
+
+abbrev pub value : Span
+value = record { at = 0x11121314; len = 0x15161718 }
+
+pub record NetworkTaken : Type 0 where
+  pub flags : npduAt (networkOctets 2 3 0x80 0xFF) ≡ network true true true true
+  pub none : npduAt (networkOctets 0 0 0 0) ≡ network false false false false
+
+pub record HeadersTaken : Type 0 where
+  pub request : apduAt (headerOctets 0) ≡ Pdus.Request (record { segment = segment; sa = true; size = 6; invoke = 7; choice = 10 })
+  pub unconfirmed : apduAt (headerOctets 1) ≡ Pdus.Unconfirmed (record { choice = 10 })
+  pub simple : apduAt (headerOctets 2) ≡ Pdus.SimpleAck (record { invoke = 7; choice = 10 })
+  pub complex : apduAt (headerOctets 3) ≡ Pdus.ComplexAck (record { segment = segment; invoke = 7; choice = 10 })
+  pub segment-ack : apduAt (headerOctets 4) ≡ Pdus.SegmentAck (record { nak = true; srv = true; invoke = 7; number = 8; window = 9 })
+  pub error : apduAt (headerOctets 5) ≡ Pdus.Error (record { invoke = 7; choice = 10 })
+  pub reject : apduAt (headerOctets 6) ≡ Pdus.Reject (record { invoke = 7; reason = 11 })
+  pub abort : apduAt (headerOctets 7) ≡ Pdus.Abort (record { srv = true; invoke = 7; reason = 11 })
+
+pub record ServicesTaken : Type 0 where
+  pub read : serviceAt (serviceOctets 0) ≡ Services.ReadProperty pointed
+  pub ack : serviceAt (serviceOctets 1) ≡ Services.ReadPropertyAck (record { target = pointed; value = value })
+  pub write : serviceAt (serviceOctets 2) ≡ Services.WriteProperty (record { target = pointed; value = value; ranked = true; priority = 26 })
+  pub who-is : serviceAt (serviceOctets 3) ≡ Services.WhoIs (record { limited = true; low = 0x05060708; high = 0x090A0B0C })
+  pub i-am : serviceAt (serviceOctets 4) ≡ Services.IAm (record { instance = 0x05060708; longest = 0x090A0B0C; segmentation = 2; vendor = 0x0304 })
+  pub error : serviceAt (serviceOctets 5) ≡ Services.Error (record { class = 0x05060708; code = 0x090A0B0C })

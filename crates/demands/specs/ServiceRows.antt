@@ -39,6 +39,10 @@ Accepts kind choice o = (v : Service) × (readService kind choice o ≡ Good v)
 abbrev pub object : List ℕ
 object = 0x0C ∷ 0x00 ∷ 0x00 ∷ 0x00 ∷ 0x05 ∷ []
 
+-- the last object: type 1023, instance 4194303
+abbrev pub lastObject : List ℕ
+lastObject = 0x0C ∷ 0xFF ∷ 0xFF ∷ 0xFF ∷ 0xFF ∷ []
+
 abbrev pub target : List ℕ
 target = object ++ (0x19 ∷ 0x55 ∷ [])
 
@@ -79,6 +83,7 @@ pub record TargetRefused (kind choice : ℕ) : Type 0 where
 -- "a group 3, the value, possibly empty": of the ack and of WriteProperty
 pub record ValueRefused (kind choice : ℕ) : Type 0 where
   pub empty : Accepts kind choice valued × Accepts kind choice (indexed ++ (0x3E ∷ 0x3F ∷ [])) × Accepts kind choice (target ++ (0x3E ∷ 0x21 ∷ 0x05 ∷ 0x3F ∷ []))
+      × Accepts kind choice (lastObject ++ (0x19 ∷ 0x55 ∷ 0x3E ∷ 0x3F ∷ []))
   -- 40: no item, without an index and with one; the index again; a context item of number 3; a group 4; a group 2, which is no index
   pub value-40 : Refuses kind choice target 40 × Refuses kind choice indexed 40 × Refuses kind choice (indexed ++ (0x29 ∷ 0x03 ∷ [])) 40
       × Refuses kind choice (target ++ (0x39 ∷ 0x05 ∷ [])) 40 × Refuses kind choice (target ++ (0x4E ∷ 0x4F ∷ [])) 40 × Refuses kind choice (target ++ (0x2E ∷ 0x2F ∷ [])) 40
@@ -89,7 +94,7 @@ pub record ServicesRefused : Type 0 where
   -- ---- "ReadProperty 12, request"
   pub property-target : TargetRefused 0 12
   pub property-good : Accepts 0 12 target × Accepts 0 12 indexed × Accepts 0 12 (object ++ (0x19 ∷ 0x00 ∷ [])) × Accepts 0 12 (object ++ (0x1C ∷ 0xFF ∷ 0xFF ∷ 0xFF ∷ 0xFF ∷ []))
-      × Accepts 0 12 (target ++ (0x2C ∷ 0xFF ∷ 0xFF ∷ 0xFF ∷ 0xFF ∷ []))
+      × Accepts 0 12 (target ++ (0x2C ∷ 0xFF ∷ 0xFF ∷ 0xFF ∷ 0xFF ∷ [])) × Accepts 0 12 (lastObject ++ (0x19 ∷ 0x55 ∷ []))
   -- 42: a number 3 and a group 2, so that the index is absent; an item after the index; a value
   pub property-42 : Refuses 0 12 (target ++ (0x39 ∷ 0x03 ∷ [])) 42 × Refuses 0 12 (target ++ (0x2E ∷ 0x2F ∷ [])) 42 × Refuses 0 12 (indexed ++ (0x29 ∷ 0x03 ∷ [])) 42
       × Refuses 0 12 valued 42
@@ -101,10 +106,10 @@ pub record ServicesRefused : Type 0 where
   -- ---- "WriteProperty 15: as the ack, with optional context 4 priority 1 to 16."
   pub write-target : TargetRefused 0 15
   pub write-value : ValueRefused 0 15
-  -- 1 and 16; 0 and 17; no octet; a longer form
+  -- 1 and 16; 0 and 17; no octet; a longer form; five octets
   pub priority-good : Accepts 0 15 (valued ++ (0x49 ∷ 0x01 ∷ [])) × Accepts 0 15 (valued ++ (0x49 ∷ 0x10 ∷ []))
   pub priority-41 : Refuses 0 15 (valued ++ (0x49 ∷ 0x00 ∷ [])) 41 × Refuses 0 15 (valued ++ (0x49 ∷ 0x11 ∷ [])) 41 × Refuses 0 15 (valued ++ (0x48 ∷ [])) 41
-      × Refuses 0 15 (valued ++ (0x4A ∷ 0x00 ∷ 0x08 ∷ [])) 41
+      × Refuses 0 15 (valued ++ (0x4A ∷ 0x00 ∷ 0x08 ∷ [])) 41 × Refuses 0 15 (valued ++ (0x4D ∷ 0x05 ∷ 0x01 ∷ 0x00 ∷ 0x00 ∷ 0x00 ∷ 0x00 ∷ [])) 41
   -- 42: a number 5 and a group 4, so that the priority is absent; an item after it
   pub write-42 : Refuses 0 15 (valued ++ (0x59 ∷ 0x08 ∷ [])) 42 × Refuses 0 15 (valued ++ (0x4E ∷ 0x4F ∷ [])) 42 × Refuses 0 15 (valued ++ (0x49 ∷ 0x08 ∷ 0x49 ∷ 0x08 ∷ [])) 42
   -- ---- "Who-Is 8: none, or context 0 and 1, both 0 to 4194303, low not above high"
@@ -112,14 +117,15 @@ pub record ServicesRefused : Type 0 where
       × Accepts 1 8 (0x0B ∷ 0x3F ∷ 0xFF ∷ 0xFF ∷ 0x1B ∷ 0x3F ∷ 0xFF ∷ 0xFF ∷ [])
   -- 42: only a high limit; an application unsigned; a group 0: the limits are absent
   pub limits-42 : Refuses 1 8 (0x19 ∷ 0x03 ∷ []) 42 × Refuses 1 8 (0x21 ∷ 0x03 ∷ []) 42 × Refuses 1 8 (0x0E ∷ 0x0F ∷ []) 42
-  -- 41: no octet, 4194304 and a longer form, before a missing high limit
+  -- 41: no octet, 4194304, a longer form and five octets, before a missing high limit
   pub low-41 : Refuses 1 8 (0x08 ∷ []) 41 × Refuses 1 8 (0x0B ∷ 0x40 ∷ 0x00 ∷ 0x00 ∷ []) 41 × Refuses 1 8 (0x0A ∷ 0x00 ∷ 0x03 ∷ []) 41
+      × Refuses 1 8 (0x0D ∷ 0x05 ∷ 0x01 ∷ 0x00 ∷ 0x00 ∷ 0x00 ∷ 0x00 ∷ []) 41
   -- 40: no item; a second low limit; a number 2; a group 1
   pub high-40 : Refuses 1 8 (0x09 ∷ 0x03 ∷ []) 40 × Refuses 1 8 (0x09 ∷ 0x03 ∷ 0x09 ∷ 0x03 ∷ []) 40 × Refuses 1 8 (0x09 ∷ 0x03 ∷ 0x29 ∷ 0x03 ∷ []) 40
       × Refuses 1 8 (0x09 ∷ 0x03 ∷ 0x1E ∷ 0x1F ∷ []) 40
-  -- 41: "low above high is judged at high"; 4194304; no octet; a longer form
+  -- 41: "low above high is judged at high"; 4194304; no octet; a longer form; five octets
   pub high-41 : Refuses 1 8 (0x09 ∷ 0x04 ∷ 0x19 ∷ 0x03 ∷ []) 41 × Refuses 1 8 (0x09 ∷ 0x03 ∷ 0x1B ∷ 0x40 ∷ 0x00 ∷ 0x00 ∷ []) 41 × Refuses 1 8 (0x09 ∷ 0x03 ∷ 0x18 ∷ []) 41
-      × Refuses 1 8 (0x09 ∷ 0x03 ∷ 0x1A ∷ 0x00 ∷ 0x03 ∷ []) 41
+      × Refuses 1 8 (0x09 ∷ 0x03 ∷ 0x1A ∷ 0x00 ∷ 0x03 ∷ []) 41 × Refuses 1 8 (0x09 ∷ 0x03 ∷ 0x1D ∷ 0x05 ∷ 0x01 ∷ 0x00 ∷ 0x00 ∷ 0x00 ∷ 0x00 ∷ []) 41
   -- 42: an item after the high limit
   pub high-42 : Refuses 1 8 (0x09 ∷ 0x03 ∷ 0x19 ∷ 0x03 ∷ 0x29 ∷ 0x03 ∷ []) 42
   -- ---- "I-Am 0: application object of type 8, unsigned, enumerated 0 to 3, unsigned to 65535."
