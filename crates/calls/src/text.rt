@@ -1,4 +1,5 @@
 // A line of the text: its name, its numbers, its groups of octets.
+ghost use Rattle.io.specs.Counts.{Counts};
 
 // The octet at a place, 0 where there is none.
 pub fn at(s: &[u8], i: usize) -> u8 {
@@ -166,6 +167,16 @@ pub fn group(s: &[u8], out: &mut [u8]) -> usize {
 pub fn group2(s: &[u8], out: &mut [u8]) -> usize {
     let from = after(s, after(s, 0, b'/'), b'/');
     words(show::part(s, from, s.len()), out)
+}
+
+// So many octets of an area, or all where it has no more.
+pub fn within(s: &[u8], n: usize) -> usize
+    ensures { λ r. ⌜ Counts r (now (s .entry)) ⌝ }
+{
+    if n <= s.len() {
+        return n;
+    }
+    s.len()
 }
 
 // The front of an area, as far as it goes.

@@ -35,10 +35,11 @@ fn set_area(s: &[u8], z: Sizes, area: &mut [u8; 65537]) -> Sizes {
 }
 
 // fresh
-fn fresh(s: &[u8], z: Sizes, state: &mut [u8; 600]) -> Sizes {
+fn fresh(s: &[u8], z: Sizes, state: &mut [u8]) -> Sizes {
     let size = text::first(s);
     text::fill(state, 0, 0xEE, size);
-    let r = trunk_calls::hb_fresh(front(state, size));
+    let n = text::within(state, size);
+    let r = trunk_calls::hb_fresh(&mut state[..n]);
     print::alone(r);
     print::area(b"  state", show::part(state, 0, size));
     Sizes {
@@ -48,15 +49,17 @@ fn fresh(s: &[u8], z: Sizes, state: &mut [u8; 600]) -> Sizes {
 }
 
 // A piece, with a report area of this size.
-fn fed(z: Sizes, size: usize, piece: &[u8], state: &mut [u8; 600], area: &mut [u8; 65537]) {
+fn fed(z: Sizes, size: usize, piece: &[u8], state: &mut [u8], area: &mut [u8]) {
     let mut report = areas::output();
     let mut eaten: usize = 99;
     let mut reported: u8 = 99;
+    let n = text::within(state, z.state);
+    let m = text::within(area, z.area);
     let r = trunk_calls::hb_feed(
-        front(state, z.state),
+        &mut state[..n],
         piece,
         front(&mut report, size),
-        front(area, z.area),
+        &mut area[..m],
         &mut eaten,
         &mut reported,
     );
@@ -111,23 +114,21 @@ fn frame(s: &[u8], z: Sizes, state: &mut [u8; 600], area: &mut [u8; 65537]) {
 }
 
 // silence
-fn silence(s: &[u8], z: Sizes, state: &mut [u8; 600]) {
+fn silence(s: &[u8], z: Sizes, state: &mut [u8]) {
     let mut report = areas::output();
     let mut reported: u8 = 99;
     let size = text::first(s);
-    let r = trunk_calls::hb_silence(
-        front(state, z.state),
-        front(&mut report, size),
-        &mut reported,
-    );
+    let n = text::within(state, z.state);
+    let r = trunk_calls::hb_silence(&mut state[..n], front(&mut report, size), &mut reported);
     print::answer(r, b" reported ", reported as usize);
     print::area(b"  report", show::part(&report, 0, size));
 }
 
 // forget
-fn forget(s: &[u8], z: Sizes, state: &mut [u8; 600]) {
+fn forget(s: &[u8], z: Sizes, state: &mut [u8]) {
     let slot = (text::first(s) % 256) as u8;
-    print::alone(trunk_calls::hb_forget(front(state, z.state), slot));
+    let n = text::within(state, z.state);
+    print::alone(trunk_calls::hb_forget(&mut state[..n], slot));
 }
 
 // area-at
