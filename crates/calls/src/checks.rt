@@ -1,47 +1,41 @@
-// The check sums, whole and in parts.
+// The check sums, whole and in parts; and the receiver by value.
 use crate::areas;
+use crate::print;
+use crate::receiver;
 use crate::text;
-use crate::text::is;
 use hitchbarley::sum_calls;
+
+// The line's last octet.
+fn last(x: u8) {
+    show::octet(x);
+    print::end();
+}
 
 fn octet(x: u8) {
     show::text(b"  ");
-    show::octet(x);
-    show::text(b"\n");
+    last(x);
 }
 
 // Two octets, the high one first.
 fn pair(x: u16) {
     show::text(b"  ");
     show::octet((x / 256) as u8);
-    show::octet((x % 256) as u8);
-    show::text(b"\n");
+    last((x % 256) as u8);
 }
 
-// What the line asks of its octets.
-fn asked(s: &[u8], octets: &[u8]) -> bool {
-    if is(s, b"header-check") {
-        octet(sum_calls::hb_header_check(octets));
-        return true;
+// header-check, header-run, data-check, data-run, receiver
+fn made(k: u8, register: usize, octets: &[u8]) {
+    match k {
+        11 => octet(sum_calls::hb_header_check(octets)),
+        12 => octet(sum_calls::hb_header_run((register % 256) as u8, octets)),
+        13 => pair(sum_calls::hb_data_check(octets)),
+        14 => pair(sum_calls::hb_data_run((register % 65536) as u16, octets)),
+        _ => receiver::all(octets),
     }
-    if is(s, b"header-run") {
-        octet(sum_calls::hb_header_run((text::first(s) % 256) as u8, octets));
-        return true;
-    }
-    if is(s, b"data-check") {
-        pair(sum_calls::hb_data_check(octets));
-        return true;
-    }
-    if is(s, b"data-run") {
-        pair(sum_calls::hb_data_run((text::first(s) % 65536) as u16, octets));
-        return true;
-    }
-    false
 }
 
-// Whether the line is one of these calls; if so it is made.
-pub fn called(s: &[u8]) -> bool {
+pub fn line(k: u8, s: &[u8]) {
     let mut octets = areas::input();
     let n = text::group(s, &mut octets);
-    asked(s, show::part(&octets, 0, n))
+    made(k, text::first(s), show::part(&octets, 0, n));
 }

@@ -4,45 +4,51 @@
 //
 // Octets are hexadecimal, XX*N is N times one; an area that is lent for output is full of EE. A line that is empty or begins with # is a heading.
 mod areas;
+mod asked;
 mod checks;
-mod headers;
-mod items;
 mod print;
 mod receiver;
-mod services;
 mod text;
 mod trunk;
 
 use trunk::Sizes;
 
-// Whether the line is a call that keeps nothing, or a heading.
-fn called(s: &[u8]) -> bool {
-    if headers::called(s) {
-        return true;
-    }
-    if items::called(s) {
-        return true;
-    }
-    if services::called(s) {
-        return true;
-    }
-    if checks::called(s) {
-        return true;
-    }
-    receiver::called(s)
+// The number of the line's name: 0 to 10 are asked.rt's, 11 to 15 checks.rt's, 16 to 25 trunk.rt's; above where it is none of these.
+fn name(s: &[u8]) -> u8 {
+    text::index(
+        s,
+        b"npdu-read npdu-write apdu-read apdu-write items-count items-list item-next item-step items-write service-write service-read header-check header-run data-check data-run receiver fresh state silence forget feed frame show-state show-area area-at area",
+    )
 }
 
-// The line, and what it gives.
+// What the line gives.
+fn answer(k: u8, s: &[u8], z: Sizes, state: &mut [u8; 600], area: &mut [u8; 65537]) -> Sizes {
+    if k < 11 {
+        asked::line(k, s);
+        return z;
+    }
+    if k < 16 {
+        checks::line(k, s);
+        return z;
+    }
+    if k < 26 {
+        return trunk::line(k, s, z, state, area);
+    }
+    show::text(b"  ?\n");
+    z
+}
+
+// The line, and what it gives; nothing where it is a heading.
 fn line(s: &[u8], z: Sizes, state: &mut [u8; 600], area: &mut [u8; 65537]) -> Sizes {
     show::text(s);
-    show::text(b"\n");
-    if s.len() == 0 || text::at(s, 0) == b'#' {
+    print::end();
+    if text::at(s, 0) == b'#' {
         return z;
     }
-    if called(s) {
+    if s.len() == 0 {
         return z;
     }
-    trunk::told(s, z, state, area)
+    answer(name(s), s, z, state, area)
 }
 
 // How much of the next line came so far, and the areas' sizes.

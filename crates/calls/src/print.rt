@@ -5,19 +5,19 @@ pub fn number(n: usize) {
     io::print_decimal(STDOUT_FILENO, n as u64);
 }
 
-// The answer, and what is named behind it.
-pub fn answer(r: u8, name: &[u8], n: usize) {
+// The answer.
+pub fn start(r: u8) {
     show::text(b"  ");
     number(r as usize);
-    show::text(name);
-    number(n);
-    show::text(b"\n");
 }
 
-// The answer alone.
-pub fn alone(r: u8) {
-    show::text(b"  ");
-    number(r as usize);
+// A number behind its name.
+pub fn named(name: &[u8], n: usize) {
+    show::text(name);
+    number(n);
+}
+
+pub fn end() {
     show::text(b"\n");
 }
 

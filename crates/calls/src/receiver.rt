@@ -1,22 +1,18 @@
 // The receiver by value: fed until all is eaten.
-use crate::areas;
 use crate::print;
-use crate::text;
 use frames::Fed;
 use frames::Outcome;
 use frames::Receiver;
 
 fn good(n: usize, store: &[u8; 501]) {
-    show::text(b" good ");
-    print::number(n);
-    show::text(b"\n");
+    print::named(b" good ", n);
+    print::end();
     print::area(b"  data", show::part(store, 0, n));
 }
 
 fn damage(d: u8) {
-    show::text(b" damage ");
-    print::number(d as usize);
-    show::text(b"\n");
+    print::named(b" damage ", d as usize);
+    print::end();
 }
 
 // What the last octet eaten ended.
@@ -28,23 +24,26 @@ fn ended(o: Outcome, n: usize, store: &[u8; 501]) {
     }
 }
 
+// What is told of a frame's end: the data length that the header has, and the store.
+fn told(o: Outcome, r: Receiver) {
+    let link = r.link;
+    let head = link.head;
+    let store = r.store;
+    ended(o, frames::length_of(head) as usize, &store);
+}
+
 // One call.
 fn turn(r: Receiver, rest: &[u8]) -> Fed {
     let f = r.feed(rest);
-    show::text(b"  ");
-    print::number(f.refused as usize);
-    show::text(b" eaten ");
-    print::number(f.eaten);
-    let q = f.receiver;
-    let link = q.link;
-    let head = link.head;
-    let store = q.store;
+    print::start(f.refused);
+    print::named(b" eaten ", f.eaten);
     let outcome = f.outcome;
-    ended(outcome, frames::length_of(head) as usize, &store);
+    let later = f.receiver;
+    told(outcome, later);
     f
 }
 
-fn all(s: &[u8]) {
+pub fn all(s: &[u8]) {
     let mut r = Receiver::fresh();
     let mut at = 0;
     let mut left = s.len();
@@ -56,15 +55,4 @@ fn all(s: &[u8]) {
         }
         left -= 1;
     }
-}
-
-// Whether the line feeds the receiver; if so it is done.
-pub fn called(s: &[u8]) -> bool {
-    if text::is(s, b"receiver") {
-        let mut octets = areas::input();
-        let n = text::group(s, &mut octets);
-        all(show::part(&octets, 0, n));
-        return true;
-    }
-    false
 }

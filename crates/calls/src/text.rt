@@ -32,16 +32,33 @@ fn ends(c: u8) -> bool {
     c == 0 || c == b' '
 }
 
-// Whether the line's first word is this.
-pub fn is(s: &[u8], name: &[u8]) -> bool {
+// Whether two texts begin with the same word.
+fn same(s: &[u8], name: &[u8]) -> bool {
     let mut i = 0;
     while i < name.len() {
+        if ends(name[i]) {
+            return ends(at(s, i));
+        }
         if at(s, i) != name[i] {
             return false;
         }
         i += 1;
     }
     ends(at(s, i))
+}
+
+// The place of the line's first word among these words, fewer than 255; 255 where it is none of them.
+pub fn index(s: &[u8], names: &[u8]) -> u8 {
+    let mut k = 0;
+    let mut i = 0;
+    while k < 255 {
+        if same(s, show::part(names, i, names.len())) {
+            return k;
+        }
+        i = after(names, i, b' ');
+        k += 1;
+    }
+    k
 }
 
 fn numeral(c: u8) -> bool {

@@ -2,8 +2,6 @@
 use crate::areas;
 use crate::print;
 use crate::text;
-use crate::text::front;
-use crate::text::is;
 use hitchbarley::sum_calls;
 use hitchbarley::trunk_calls;
 
@@ -14,16 +12,15 @@ pub struct Sizes {
 }
 
 // state: another state area.
-fn set_state(s: &[u8], z: Sizes, state: &mut [u8; 600]) -> Sizes {
-    let n = text::group(s, state);
+fn set_state(s: &[u8], z: Sizes, state: &mut [u8]) -> Sizes {
     Sizes {
-        state: n,
+        state: text::group(s, state),
         area: z.area,
     }
 }
 
 // area: another message area, of one octet.
-fn set_area(s: &[u8], z: Sizes, area: &mut [u8; 65537]) -> Sizes {
+fn set_area(s: &[u8], z: Sizes, area: &mut [u8]) -> Sizes {
     let mut octet = [0u8; 1];
     text::group(s, &mut octet);
     let size = text::first(s);
@@ -39,13 +36,41 @@ fn fresh(s: &[u8], z: Sizes, state: &mut [u8]) -> Sizes {
     let size = text::first(s);
     text::fill(state, 0, 0xEE, size);
     let n = text::within(state, size);
-    let r = trunk_calls::hb_fresh(&mut state[..n]);
-    print::alone(r);
-    print::area(b"  state", show::part(state, 0, size));
+    print::start(trunk_calls::hb_fresh(&mut state[..n]));
+    print::end();
+    print::area(b"  state", show::part(state, 0, n));
     Sizes {
-        state: size,
+        state: n,
         area: z.area,
     }
+}
+
+// A piece, to the areas of these sizes.
+fn offered(
+    z: Sizes,
+    piece: &[u8],
+    report: &mut [u8],
+    state: &mut [u8],
+    area: &mut [u8],
+    eaten: &mut usize,
+    reported: &mut u8,
+) -> u8 {
+    let n = text::within(state, z.state);
+    let m = text::within(area, z.area);
+    trunk_calls::hb_feed(
+        &mut state[..n],
+        piece,
+        report,
+        &mut area[..m],
+        eaten,
+        reported,
+    )
+}
+
+fn reported_end(reported: u8, report: &[u8]) {
+    print::named(b" reported ", reported as usize);
+    print::end();
+    print::area(b"  report", report);
 }
 
 // A piece, with a report area of this size.
@@ -53,143 +78,128 @@ fn fed(z: Sizes, size: usize, piece: &[u8], state: &mut [u8], area: &mut [u8]) {
     let mut report = areas::output();
     let mut eaten: usize = 99;
     let mut reported: u8 = 99;
-    let n = text::within(state, z.state);
-    let m = text::within(area, z.area);
-    let r = trunk_calls::hb_feed(
-        &mut state[..n],
+    let r = offered(
+        z,
         piece,
-        front(&mut report, size),
-        &mut area[..m],
+        text::front(&mut report, size),
+        state,
+        area,
         &mut eaten,
         &mut reported,
     );
-    show::text(b"  ");
-    print::number(r as usize);
-    show::text(b" eaten ");
-    print::number(eaten);
-    show::text(b" reported ");
-    print::number(reported as usize);
-    show::text(b"\n");
-    print::area(b"  report", show::part(&report, 0, size));
+    print::start(r);
+    print::named(b" eaten ", eaten);
+    reported_end(reported, show::part(&report, 0, size));
 }
 
-// feed
-fn feed(s: &[u8], z: Sizes, state: &mut [u8; 600], area: &mut [u8; 65537]) {
-    let mut piece = areas::input();
-    let n = text::group(s, &mut piece);
-    fed(z, text::first(s), show::part(&piece, 0, n), state, area);
+// A frame's front: preamble, header and its check.
+fn headed(kind: u8, destination: u8, source: u8, n: usize, out: &mut [u8]) {
+    let head = [
+        kind,
+        destination,
+        source,
+        (n / 256 % 256) as u8,
+        (n % 256) as u8,
+    ];
+    text::lay(out, 0, b"\x55\xFF");
+    text::lay(out, 2, &head);
+    text::put(out, 7, sum_calls::hb_header_check(&head));
+}
+
+// The data behind it and their check; where the frame ends.
+fn filled(payload: &[u8], out: &mut [u8]) -> usize {
+    if payload.len() == 0 {
+        return 8;
+    }
+    let sum = sum_calls::hb_data_check(payload);
+    let a = text::lay(out, 8, payload);
+    let b = text::put(out, a, (sum % 256) as u8);
+    text::put(out, b, (sum / 256) as u8)
 }
 
 // A frame with its checks; how many octets it has.
-fn framed(kind: u8, destination: u8, source: u8, payload: &[u8], out: &mut [u8]) -> usize {
-    let n = payload.len() % 65536;
-    let head = [kind, destination, source, (n / 256) as u8, (n % 256) as u8];
-    let check = sum_calls::hb_header_check(&head);
-    let a = text::lay(out, 0, &[0x55, 0xFF]);
-    let b = text::lay(out, a, &head);
-    let c = text::lay(out, b, &[check]);
-    if n == 0 {
-        return c;
-    }
-    let sum = sum_calls::hb_data_check(payload);
-    let d = text::lay(out, c, payload);
-    text::lay(out, d, &[(sum % 256) as u8, (sum / 256) as u8])
-}
-
-// frame
-fn frame(s: &[u8], z: Sizes, state: &mut [u8; 600], area: &mut [u8; 65537]) {
+fn framed(s: &[u8], out: &mut [u8]) -> usize {
     let mut head = [0u8; 3];
     let mut payload = areas::input();
-    let mut out = areas::input();
     text::group(s, &mut head);
     let n = text::group2(s, &mut payload);
-    let m = framed(
-        head[0],
-        head[1],
-        head[2],
-        show::part(&payload, 0, n),
-        &mut out,
-    );
-    fed(z, text::first(s), show::part(&out, 0, m), state, area);
+    headed(head[0], head[1], head[2], n, out);
+    filled(show::part(&payload, 0, n), out)
+}
+
+// The octets of the line, or of the frame that it is.
+fn piece(k: u8, s: &[u8], out: &mut [u8]) -> usize {
+    if k == 20 {
+        return text::group(s, out);
+    }
+    framed(s, out)
+}
+
+// feed, frame
+fn feed(k: u8, s: &[u8], z: Sizes, state: &mut [u8], area: &mut [u8]) {
+    let mut octets = areas::input();
+    let n = piece(k, s, &mut octets);
+    fed(z, text::first(s), show::part(&octets, 0, n), state, area);
 }
 
 // silence
-fn silence(s: &[u8], z: Sizes, state: &mut [u8]) {
+fn silence(size: usize, z: Sizes, state: &mut [u8]) {
     let mut report = areas::output();
     let mut reported: u8 = 99;
-    let size = text::first(s);
     let n = text::within(state, z.state);
-    let r = trunk_calls::hb_silence(&mut state[..n], front(&mut report, size), &mut reported);
-    print::answer(r, b" reported ", reported as usize);
-    print::area(b"  report", show::part(&report, 0, size));
+    let r = trunk_calls::hb_silence(
+        &mut state[..n],
+        text::front(&mut report, size),
+        &mut reported,
+    );
+    print::start(r);
+    reported_end(reported, show::part(&report, 0, size));
 }
 
 // forget
-fn forget(s: &[u8], z: Sizes, state: &mut [u8]) {
-    let slot = (text::first(s) % 256) as u8;
+fn forget(slot: usize, z: Sizes, state: &mut [u8]) {
     let n = text::within(state, z.state);
-    print::alone(trunk_calls::hb_forget(&mut state[..n], slot));
+    let r = trunk_calls::hb_forget(&mut state[..n], (slot % 256) as u8);
+    print::start(r);
+    print::end();
 }
 
 // area-at
-fn lay(s: &[u8], area: &mut [u8; 65537]) {
+fn lay(s: &[u8], area: &mut [u8]) {
     let mut octets = areas::input();
     let n = text::group(s, &mut octets);
     text::lay(area, text::first(s), show::part(&octets, 0, n));
 }
 
-// Whether the line sets or shows an area; if so it is done.
-fn shown(s: &[u8], z: Sizes, state: &[u8; 600], area: &mut [u8; 65537]) -> bool {
-    if is(s, b"area-at") {
-        lay(s, area);
-        return true;
+// show-state, show-area, area-at
+fn shown(k: u8, s: &[u8], z: Sizes, state: &[u8], area: &mut [u8]) {
+    match k {
+        22 => print::area(b"  state", show::part(state, 0, z.state)),
+        23 => print::area(b"  area", show::part(area, 0, z.area)),
+        _ => lay(s, area),
     }
-    if is(s, b"show-state") {
-        print::area(b"  state", show::part(state, 0, z.state));
-        return true;
-    }
-    if is(s, b"show-area") {
-        print::area(b"  area", show::part(area, 0, z.area));
-        return true;
-    }
-    false
 }
 
-// Whether the line is a call that leaves the areas' sizes; if so it is made.
-pub fn called(s: &[u8], z: Sizes, state: &mut [u8; 600], area: &mut [u8; 65537]) -> bool {
-    if is(s, b"feed") {
-        feed(s, z, state, area);
-        return true;
+fn called(k: u8, s: &[u8], z: Sizes, state: &mut [u8], area: &mut [u8]) {
+    match k {
+        18 => silence(text::first(s), z, state),
+        19 => forget(text::first(s), z, state),
+        20 | 21 => feed(k, s, z, state, area),
+        _ => shown(k, s, z, state, area),
     }
-    if is(s, b"frame") {
-        frame(s, z, state, area);
-        return true;
-    }
-    if is(s, b"silence") {
-        silence(s, z, state);
-        return true;
-    }
-    if is(s, b"forget") {
-        forget(s, z, state);
-        return true;
-    }
-    shown(s, z, state, area)
 }
 
-// The areas' sizes after the line, which is a call or sets them; or is none of these.
-pub fn told(s: &[u8], z: Sizes, state: &mut [u8; 600], area: &mut [u8; 65537]) -> Sizes {
-    if is(s, b"state") {
-        return set_state(s, z, state);
-    }
-    if is(s, b"area") {
-        return set_area(s, z, area);
-    }
-    if is(s, b"fresh") {
+// The areas' sizes after the line.
+pub fn line(k: u8, s: &[u8], z: Sizes, state: &mut [u8], area: &mut [u8]) -> Sizes {
+    if k == 16 {
         return fresh(s, z, state);
     }
-    if called(s, z, state, area) {
-        return z;
+    if k == 17 {
+        return set_state(s, z, state);
     }
-    show::text(b"  ?\n");
+    if k == 25 {
+        return set_area(s, z, area);
+    }
+    called(k, s, z, state, area);
     z
 }
