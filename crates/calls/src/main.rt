@@ -17,7 +17,7 @@ use trunk::Sizes;
 fn name(s: &[u8]) -> u8 {
     text::index(
         s,
-        b"npdu-read npdu-write apdu-read apdu-write items-count items-list item-next item-step items-write service-write service-read header-check header-run data-check data-run receiver fresh state silence forget feed frame show-state show-area area-at area",
+        b"npdu-read npdu-write apdu-read apdu-write items-count items-list item-next item-step items-write service-write service-read header-check header-run data-check data-run receiver fresh state area silence forget feed frame show-state show-area area-at",
     )
 }
 

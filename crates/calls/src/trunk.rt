@@ -11,60 +11,43 @@ pub struct Sizes {
     pub area: usize,
 }
 
-// state: another state area.
-fn set_state(s: &[u8], z: Sizes, state: &mut [u8]) -> Sizes {
-    Sizes {
-        state: text::group(s, state),
-        area: z.area,
-    }
-}
-
-// area: another message area, of one octet.
-fn set_area(s: &[u8], z: Sizes, area: &mut [u8]) -> Sizes {
+// area: a message area of one octet; its size.
+fn set_area(s: &[u8], area: &mut [u8]) -> usize {
     let mut octet = [0u8; 1];
     text::group(s, &mut octet);
     let size = text::first(s);
     text::fill(area, 0, octet[0], size);
-    Sizes {
-        state: z.state,
-        area: size,
-    }
+    size
 }
 
-// fresh
-fn fresh(s: &[u8], z: Sizes, state: &mut [u8]) -> Sizes {
-    let size = text::first(s);
+// fresh: the state area's size.
+fn fresh(size: usize, state: &mut [u8]) -> usize {
     text::fill(state, 0, 0xEE, size);
     let n = text::within(state, size);
     print::start(trunk_calls::hb_fresh(&mut state[..n]));
     print::end();
     print::area(b"  state", show::part(state, 0, n));
-    Sizes {
-        state: n,
-        area: z.area,
-    }
+    n
 }
 
-// A piece, to the areas of these sizes.
-fn offered(
-    z: Sizes,
-    piece: &[u8],
-    report: &mut [u8],
-    state: &mut [u8],
-    area: &mut [u8],
-    eaten: &mut usize,
-    reported: &mut u8,
-) -> u8 {
-    let n = text::within(state, z.state);
-    let m = text::within(area, z.area);
-    trunk_calls::hb_feed(
-        &mut state[..n],
-        piece,
-        report,
-        &mut area[..m],
-        eaten,
-        reported,
-    )
+// The sizes after a line that sets an area.
+fn set(k: u8, s: &[u8], z: Sizes, state: &mut [u8], area: &mut [u8]) -> Sizes {
+    if k == 16 {
+        return Sizes {
+            state: fresh(text::first(s), state),
+            area: z.area,
+        };
+    }
+    if k == 17 {
+        return Sizes {
+            state: text::group(s, state),
+            area: z.area,
+        };
+    }
+    Sizes {
+        state: z.state,
+        area: set_area(s, area),
+    }
 }
 
 fn reported_end(reported: u8, report: &[u8]) {
@@ -74,15 +57,14 @@ fn reported_end(reported: u8, report: &[u8]) {
 }
 
 // A piece, with a report area of this size.
-fn fed(z: Sizes, size: usize, piece: &[u8], state: &mut [u8], area: &mut [u8]) {
+fn fed(size: usize, piece: &[u8], state: &mut [u8], area: &mut [u8]) {
     let mut report = areas::output();
     let mut eaten: usize = 99;
     let mut reported: u8 = 99;
-    let r = offered(
-        z,
+    let r = trunk_calls::hb_feed(
+        state,
         piece,
         text::front(&mut report, size),
-        state,
         area,
         &mut eaten,
         &mut reported,
@@ -129,38 +111,31 @@ fn framed(s: &[u8], out: &mut [u8]) -> usize {
 
 // The octets of the line, or of the frame that it is.
 fn piece(k: u8, s: &[u8], out: &mut [u8]) -> usize {
-    if k == 20 {
+    if k == 21 {
         return text::group(s, out);
     }
     framed(s, out)
 }
 
 // feed, frame
-fn feed(k: u8, s: &[u8], z: Sizes, state: &mut [u8], area: &mut [u8]) {
+fn feed(k: u8, s: &[u8], state: &mut [u8], area: &mut [u8]) {
     let mut octets = areas::input();
     let n = piece(k, s, &mut octets);
-    fed(z, text::first(s), show::part(&octets, 0, n), state, area);
+    fed(text::first(s), show::part(&octets, 0, n), state, area);
 }
 
 // silence
-fn silence(size: usize, z: Sizes, state: &mut [u8]) {
+fn silence(size: usize, state: &mut [u8]) {
     let mut report = areas::output();
     let mut reported: u8 = 99;
-    let n = text::within(state, z.state);
-    let r = trunk_calls::hb_silence(
-        &mut state[..n],
-        text::front(&mut report, size),
-        &mut reported,
-    );
+    let r = trunk_calls::hb_silence(state, text::front(&mut report, size), &mut reported);
     print::start(r);
     reported_end(reported, show::part(&report, 0, size));
 }
 
 // forget
-fn forget(slot: usize, z: Sizes, state: &mut [u8]) {
-    let n = text::within(state, z.state);
-    let r = trunk_calls::hb_forget(&mut state[..n], (slot % 256) as u8);
-    print::start(r);
+fn forget(slot: usize, state: &mut [u8]) {
+    print::start(trunk_calls::hb_forget(state, (slot % 256) as u8));
     print::end();
 }
 
@@ -172,34 +147,31 @@ fn lay(s: &[u8], area: &mut [u8]) {
 }
 
 // show-state, show-area, area-at
-fn shown(k: u8, s: &[u8], z: Sizes, state: &[u8], area: &mut [u8]) {
+fn shown(k: u8, s: &[u8], state: &[u8], area: &mut [u8]) {
     match k {
-        22 => print::area(b"  state", show::part(state, 0, z.state)),
-        23 => print::area(b"  area", show::part(area, 0, z.area)),
+        23 => print::area(b"  state", state),
+        24 => print::area(b"  area", area),
         _ => lay(s, area),
     }
 }
 
-fn called(k: u8, s: &[u8], z: Sizes, state: &mut [u8], area: &mut [u8]) {
+// A line that leaves the areas' sizes.
+fn called(k: u8, s: &[u8], state: &mut [u8], area: &mut [u8]) {
     match k {
-        18 => silence(text::first(s), z, state),
-        19 => forget(text::first(s), z, state),
-        20 | 21 => feed(k, s, z, state, area),
-        _ => shown(k, s, z, state, area),
+        19 => silence(text::first(s), state),
+        20 => forget(text::first(s), state),
+        21 | 22 => feed(k, s, state, area),
+        _ => shown(k, s, state, area),
     }
 }
 
 // The areas' sizes after the line.
 pub fn line(k: u8, s: &[u8], z: Sizes, state: &mut [u8], area: &mut [u8]) -> Sizes {
-    if k == 16 {
-        return fresh(s, z, state);
+    if k < 19 {
+        return set(k, s, z, state, area);
     }
-    if k == 17 {
-        return set_state(s, z, state);
-    }
-    if k == 25 {
-        return set_area(s, z, area);
-    }
-    called(k, s, z, state, area);
+    let n = text::within(state, z.state);
+    let m = text::within(area, z.area);
+    called(k, s, &mut state[..n], &mut area[..m]);
     z
 }
