@@ -1,7 +1,8 @@
 // Decoded values: the services' parameters in words, from `services::read` and the tags of their values.
 // Text goes into a lent area from a place on; what is too long for the area is cut, and the line says how many octets are left.
-pub mod contents;
-pub mod list;
+mod contents;
+mod item;
+mod list;
 pub mod long;
 pub mod service;
 pub mod table;

@@ -1,8 +1,9 @@
 // A value's items as a line says them: commas between, a group in braces behind its number.
 use crate::contents;
+use crate::item::Item;
+use crate::item::item_at;
 use crate::long;
 use crate::span;
-use tags::Tag;
 use words::fill;
 use words::put;
 use words::room;
@@ -14,32 +15,26 @@ struct So {
     opened: bool,
 }
 
-// An application item: its contents and its type.
-fn application(book: &[u8], number: u8, value: u8, c: &[u8], out: &mut [u8], at: usize) -> usize {
-    let a = contents::text(book, number, value, c, false, out, at);
-    fill(book, b" (#t)", &[number as u64], out, a)
-}
-
-// An item with contents: a context item is its number and its octets.
-fn item(
-    book: &[u8],
-    kind: u8,
-    number: u8,
-    value: u8,
-    c: &[u8],
-    out: &mut [u8],
-    at: usize,
-) -> usize {
-    if kind == 0 {
-        return application(book, number, value, c, out, at);
+// An item: an application item's contents and its type; a context item's number and its octets; the borders of a group.
+fn one(book: &[u8], s: &[u8], r: Item, out: &mut [u8], at: usize) -> usize {
+    let c = span(s, r.place, r.len);
+    if r.kind == 0 {
+        let a = contents::text(book, r.number, r.value, c, false, out, at);
+        return fill(book, b" (#t)", &[r.number as u64], out, a);
     }
-    let a = fill(book, b"[#n] ", &[number as u64], out, at);
-    long::octets(c, out, a)
+    if r.kind == 1 {
+        let a = fill(book, b"[#n] ", &[r.number as u64], out, at);
+        return long::octets(c, out, a);
+    }
+    if r.kind == 2 {
+        return fill(book, b"[#n] {", &[r.number as u64], out, at);
+    }
+    put(out, at, b"}")
 }
 
 // What stands in front of an item: nothing in front of the first.
-fn between(i: usize, tight: bool, out: &mut [u8], at: usize) -> usize {
-    if i == 0 {
+fn between(next: usize, tight: bool, out: &mut [u8], at: usize) -> usize {
+    if next == 0 {
         return at;
     }
     if tight {
@@ -58,68 +53,18 @@ fn cut(s: &[u8], place: usize, out: &mut [u8], at: usize) -> So {
     }
 }
 
-// Where the contents begin of what a tag opens or is: the octet after the tag.
-fn place_of(t: Tag) -> usize {
-    match t {
-        Tag::Item {
-            kind: _,
-            number: _,
-            value: _,
-            place,
-            len: _,
-        } => place,
-        Tag::Opening { number: _, place } => place,
-        Tag::Closing { number: _, place } => place,
-        Tag::Refused(_) => 0,
-    }
-}
-
-// A tag in words.
-fn said(book: &[u8], s: &[u8], t: Tag, w: So, out: &mut [u8]) -> So {
-    let i = w.next;
-    match t {
-        Tag::Item {
-            kind,
-            number,
-            value,
-            place,
-            len,
-        } => {
-            let a = between(i, w.opened, out, w.at);
-            So {
-                next: std::num::wrapping_add_usize(place, len),
-                at: item(book, kind, number, value, span(s, place, len), out, a),
-                opened: false,
-            }
-        }
-        Tag::Opening { number, place } => {
-            let a = between(i, w.opened, out, w.at);
-            So {
-                next: place,
-                at: fill(book, b"[#n] {", &[number as u64], out, a),
-                opened: true,
-            }
-        }
-        Tag::Closing { number: _, place } => So {
-            next: place,
-            at: put(out, w.at, b" }"),
-            opened: false,
-        },
-        Tag::Refused(_) => So {
-            next: s.len(),
-            at: w.at,
-            opened: false,
-        },
-    }
-}
-
 // The item at a place, and where the next one stands.
 fn step(book: &[u8], s: &[u8], w: So, out: &mut [u8]) -> So {
-    let t = tags::head(s, w.next);
+    let r = item_at(s, w.next);
     if room(out, w.at) < 192 {
-        return cut(s, place_of(t), out, w.at);
+        return cut(s, r.place, out, w.at);
     }
-    said(book, s, t, w, out)
+    let a = between(w.next, w.opened || r.kind == 3, out, w.at);
+    So {
+        next: r.next,
+        at: one(book, s, r, out, a),
+        opened: r.kind == 2,
+    }
 }
 
 // A value in words. Each item has an octet at least, so no more steps than octets are needed.

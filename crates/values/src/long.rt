@@ -67,16 +67,20 @@ fn plain(c: &[u8], table: bool, out: &mut [u8], at: usize) -> usize {
     one(34, out, to)
 }
 
+// The number of a set of characters.
+fn set(x: u8, out: &mut [u8], at: usize) -> usize {
+    fill(&[], b"set #n: ", &[x as u64], out, at)
+}
+
 // A text: set 0 in quotes, another set as its number and octets.
 pub fn characters(c: &[u8], table: bool, out: &mut [u8], at: usize) -> usize {
     if c.len() == 0 {
         return at;
     }
-    let set = c[0];
-    if set == 0 {
+    if c[0] == 0 {
         return plain(c, table, out, at);
     }
-    let a = fill(&[], b"set #n: ", &[set as u64], out, at);
+    let a = set(c[0], out, at);
     octets(&c[1..], out, a)
 }
 
@@ -86,22 +90,25 @@ fn digits(x: u8, n: u8, out: &mut [u8], at: usize) -> usize {
     let mut rest = x;
     let mut k = 0;
     while k < n {
-        to = one(48 + rest / 128, out, to);
+        to = one(48 + rest / 128 % 2, out, to);
         rest = rest % 128 * 2;
         k += 1;
     }
     to
 }
 
-// How many bits of the octet with so many from it on are used, itself among them: of the last one some may be unused.
-fn used(left: usize, unused: u8) -> u8 {
-    if left == 1 {
-        return 8 - unused % 8;
+// The bits of the i-th octet; as many of the last one as are used.
+fn bits_at(c: &[u8], i: usize, out: &mut [u8], at: usize) -> usize {
+    if c.len() <= i {
+        return at;
     }
-    8
+    if c.len() - i == 1 {
+        return digits(c[i], 8 - c[0] % 8, out, at);
+    }
+    digits(c[i], 8, out, at)
 }
 
-// Bits, the first first; the octet in front of them says how many of the last are unused.
+// Bits, the first first.
 pub fn bits(c: &[u8], out: &mut [u8], at: usize) -> usize {
     let mut to = at;
     let mut i = 1;
@@ -109,7 +116,7 @@ pub fn bits(c: &[u8], out: &mut [u8], at: usize) -> usize {
         if room(out, to) < 96 {
             return left(c.len() - i, out, to);
         }
-        to = digits(c[i], used(c.len() - i, c[0]), out, to);
+        to = bits_at(c, i, out, to);
         i += 1;
     }
     to

@@ -1,11 +1,12 @@
 // Values as rows of a table (RFC 4180): a row for each item of a ReadProperty ack or a WriteProperty request.
 use crate::contents;
+use crate::item::Item;
+use crate::item::item_at;
 use crate::long;
 use crate::span;
 use services::Answer;
 use services::Service;
 use services::Target;
-use tags::Tag;
 use words::fill;
 use words::one;
 use words::put;
@@ -36,61 +37,33 @@ fn target(book: &[u8], t: Target, out: &mut [u8], at: usize) -> usize {
     one(44, out, a)
 }
 
-// Type and value of an item: an application type; a context item's octets.
-fn cells(
-    book: &[u8],
-    kind: u8,
-    number: u8,
-    value: u8,
-    c: &[u8],
-    out: &mut [u8],
-    at: usize,
-) -> usize {
-    if kind == 0 {
-        let a = fill(book, b"#T,", &[number as u64], out, at);
-        return contents::text(book, number, value, c, true, out, a);
+// Type and value of an item: an application type; a context item's octets; the borders of a group.
+fn cells(book: &[u8], s: &[u8], r: Item, out: &mut [u8], at: usize) -> usize {
+    let c = span(s, r.place, r.len);
+    if r.kind == 0 {
+        let a = fill(book, b"#T,", &[r.number as u64], out, at);
+        return contents::text(book, r.number, r.value, c, true, out, a);
     }
-    let a = fill(book, b"context #n,", &[number as u64], out, at);
-    long::octets(c, out, a)
+    if r.kind == 1 {
+        let a = fill(book, b"context #n,", &[r.number as u64], out, at);
+        return long::octets(c, out, a);
+    }
+    if r.kind == 2 {
+        return fill(book, b"group #n,", &[r.number as u64], out, at);
+    }
+    fill(book, b"end of group #n,", &[r.number as u64], out, at)
 }
 
 fn ended(at: usize, next: usize, more: bool) -> Told {
     Told { at, next, more }
 }
 
-// The cells of a tag behind `front`, and where the next one stands; the borders of a group are rows too.
-fn said(book: &[u8], s: &[u8], t: Tag, front: &[u8], out: &mut [u8], at: usize) -> Told {
-    let a = put(out, at, front);
-    match t {
-        Tag::Item {
-            kind,
-            number,
-            value,
-            place,
-            len,
-        } => ended(
-            cells(book, kind, number, value, span(s, place, len), out, a),
-            std::num::wrapping_add_usize(place, len),
-            false,
-        ),
-        Tag::Opening { number, place } => ended(
-            fill(book, b"group #n,", &[number as u64], out, a),
-            place,
-            false,
-        ),
-        Tag::Closing { number, place } => ended(
-            fill(book, b"end of group #n,", &[number as u64], out, a),
-            place,
-            false,
-        ),
-        Tag::Refused(_) => ended(a, s.len(), false),
-    }
-}
-
 // The row of the item at a place.
 fn row(book: &[u8], s: &[u8], next: usize, front: &[u8], out: &mut [u8], at: usize) -> Told {
-    let t = said(book, s, tags::head(s, next), front, out, at);
-    ended(one(10, out, t.at), t.next, t.next < s.len())
+    let r = item_at(s, next);
+    let a = put(out, at, front);
+    let b = cells(book, s, r, out, a);
+    ended(one(10, out, b), r.next, r.next < s.len())
 }
 
 // The rows of a value from an item on, as far as there is room. Each item has an octet at least, so no more turns than octets are needed.

@@ -1,0 +1,55 @@
+use borrow.Author.Needs.{needs}
+use lib.ListN.{length}
+use mathlib.Core.Path.{_≡_}
+use Prim.Native.Nat.{_-_}
+use Rattle.values.proofs.long.row.Statement.{statement}
+use Rattle.values.proofs.long.row.Tie as tie
+
+abbrev Inv-loop : tie.InvT-loop
+Inv-loop c out₀ at to₀ i₀ out to i = length out ≡ length out₀
+
+abbrev μ-loop : tie.MeasureT-loop
+μ-loop c out₀ at to₀ i₀ out to i = length c - i
+
+loop-holds : tie.Need-loop-holds Inv-loop μ-loop
+loop-holds c = search needs
+
+one-requires : tie.Need-one-requires Inv-loop μ-loop
+one-requires c κs = search needs
+
+shared-slice-read-two : tie.Need-shared-slice-read-two Inv-loop μ-loop
+shared-slice-read-two c = search needs
+
+two-requires : tie.Need-two-requires Inv-loop μ-loop
+two-requires c κs = search needs
+
+add-i : tie.Need-add-i Inv-loop μ-loop
+add-i c = search needs
+
+loop-less : tie.Need-loop-less Inv-loop μ-loop
+loop-less c = search needs
+
+loop-again : tie.Need-loop-again Inv-loop μ-loop
+loop-again c = search needs
+
+same-length : tie.Need-same-length Inv-loop μ-loop
+same-length c = search needs
+
+returns : tie.Need-returns Inv-loop μ-loop
+returns c = search needs
+
+pub row-spec : {M : Type 1} → statement M
+row-spec =
+    tie.close
+    (tie.spec
+    Inv-loop
+    μ-loop
+    loop-holds
+    one-requires
+    shared-slice-read-two
+    two-requires
+    add-i
+    loop-less
+    loop-again
+    same-length
+    returns)
