@@ -62,7 +62,8 @@ fn network(book: &[u8], r: Heard, data: &[u8], out: &mut [u8], at: usize) -> usi
 
 // A report in words.
 fn said(book: &[u8], r: Heard, data: &[u8], area: &[u8], out: &mut [u8], at: usize) -> usize {
-    match r.kind {
+    let kind = r.kind;
+    match kind {
         1 => frame(book, r, out, at),
         2 => damage(book, r, out, at),
         3 => message::whole(book, r, data, out, at),
@@ -88,14 +89,19 @@ fn token(r: Heard) -> bool {
     r.kind == 1 && r.frame == 0 && r.length == 0 && r.to != 255
 }
 
+// From whom to whom a token goes.
+fn between(r: Heard, out: &mut [u8], at: usize) -> usize {
+    let a = number(r.from as u64, out, at);
+    let b = put(out, a, b" to ");
+    number(r.to as u64, out, b)
+}
+
 // A token's line without a template, which costs half.
 fn passed(heard: u64, r: Heard, out: &mut [u8], at: usize) -> usize {
     let a = put(out, at, b"octet ");
     let b = number(heard, out, a);
     let c = put(out, b, b": token, from ");
-    let d = number(r.from as u64, out, c);
-    let e = put(out, d, b" to ");
-    number(r.to as u64, out, e)
+    between(r, out, c)
 }
 
 // A report in words behind the octets heard so far.
