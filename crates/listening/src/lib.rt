@@ -38,7 +38,7 @@ fn rows(
     out: &mut [u8; 131072],
     at: usize,
 ) -> Gathered {
-    let mut g = output::gathered(at);
+    let mut g = output::so_far(at);
     let mut from = 0;
     let mut left: usize = 2049;
     while 0 < left {

@@ -7,14 +7,14 @@ pub struct Gathered {
     pub stopped: bool,
 }
 
-pub fn gathered(at: usize) -> Gathered {
+pub fn so_far(at: usize) -> Gathered {
     Gathered { at, stopped: false }
 }
 
 // Writes out what is gathered; an output that takes no more is said, and the listening stops.
 pub fn flush(at: usize, out: &[u8; 131072]) -> Gathered {
     if io::write_all(STDOUT_FILENO, show::part(out, 0, at)) {
-        return gathered(0);
+        return so_far(0);
     }
     os::fail(b"listen: standard output");
     Gathered {
@@ -25,7 +25,7 @@ pub fn flush(at: usize, out: &[u8; 131072]) -> Gathered {
 
 pub fn when_full(at: usize, out: &[u8; 131072]) -> Gathered {
     if at < 65536 {
-        return gathered(at);
+        return so_far(at);
     }
     flush(at, out)
 }
