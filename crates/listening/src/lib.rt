@@ -188,15 +188,14 @@ fn last(
     e
 }
 
-fn listen(w: Wish, fd: i32) {
-    let book = words::book();
+fn listen(book: &[u8], w: Wish, fd: i32) {
     let mut store = [0u8; 501];
     let mut area = io::large_buffer();
     let mut counts = [0u64; 12];
     let mut out = [0u8; 131072];
     let at = output::start(w.csv, &mut out);
     let e = all(
-        &book,
+        book,
         ear::fresh(at),
         w,
         fd,
@@ -205,7 +204,7 @@ fn listen(w: Wish, fd: i32) {
         &mut counts,
         &mut out,
     );
-    end(&book, e, w, &store, &area, &mut counts, &mut out);
+    end(book, e, w, &store, &area, &mut counts, &mut out);
 }
 
 // Listens as the arguments ask for.
@@ -219,5 +218,6 @@ pub fn run() {
     if fd < 0 {
         return;
     }
-    listen(w, fd);
+    let book = words::book();
+    listen(&book, w, fd);
 }
