@@ -1,7 +1,9 @@
-/* Makes the recordings that both listeners are run on: recordings NAME [N] writes one to standard output.
-   A recording is records of four octets: kind (0 octet, 1 silence, 2 forget), value, two zeros.
+/* Makes the recordings that both listeners are run on: recordings [octets | raw] NAME [N] writes one to standard output.
+   A recording is records of four octets: kind (0 octet, 1 silence, 2 forget), value, two zeros; with `octets` its octets' records alone, with `raw` its
+   octets as they came.
 
      idle          tokens and polls of eight masters, a second of a trunk (7,680 octets)
+     readings      the same masters, and at every second token one reads a chamber's voltage and is answered
      full          frames with 501 data octets
      segmented     logs on four keys at once, each of five segments
      damaged [N]   N-th random mixture of good, damaged, refused and segmented traffic, silences and forget orders
@@ -13,8 +15,15 @@
 #include <stdlib.h>
 #include <string.h>
 
+static int octets_alone, raw;
+
 static void record(int kind, int value)
 {
+    if (kind && (octets_alone || raw)) return;
+    if (raw) {
+        putchar(value);
+        return;
+    }
     putchar(kind);
     putchar(value);
     putchar(0);
@@ -125,6 +134,27 @@ static void idle(void)
             sent++;
             silence(); /* nobody answers */
         }
+    }
+}
+
+/* A ReadProperty request for the present value of an analog input, and its ack with a real. */
+static void reading(int to, int from, int invoke, int instance, float volts)
+{
+    union { float real; uint32_t octets; } v = {volts};
+    const uint8_t request[] = {0x01, 0x04, 0x02, 0x03, (uint8_t)invoke, 0x0C, 0x0C, 0, 0, (uint8_t)(instance >> 8), (uint8_t)instance, 0x19, 0x55};
+    const uint8_t ack[] = {0x01, 0x00, 0x30, (uint8_t)invoke, 0x0C, 0x0C, 0, 0, (uint8_t)(instance >> 8), (uint8_t)instance, 0x19, 0x55, 0x3E, 0x44,
+                           (uint8_t)(v.octets >> 24), (uint8_t)(v.octets >> 16), (uint8_t)(v.octets >> 8), (uint8_t)v.octets, 0x3F};
+    send(5, to, from, request, sizeof request);
+    send(6, from, to, ack, sizeof ack);
+}
+
+static void readings(void)
+{
+    for (int turn = 0; turn < 240; turn++) {
+        int m = turn % 8;
+        send(0, (m + 1) % 8, m, NULL, 0);
+        if (turn % 2) reading(32 + turn % 64, m, turn % 256, turn * 5 % 512, (float)(2500 + below(1700)) / 1000);
+        if (turn % 50 == 49) send(1, 8 + turn % 100, m, NULL, 0);
     }
 }
 
@@ -363,9 +393,13 @@ static void damaged(int which)
 
 int main(int argc, char **argv)
 {
+    octets_alone = argc > 1 && !strcmp(argv[1], "octets");
+    raw = argc > 1 && !strcmp(argv[1], "raw");
+    if (octets_alone || raw) argc--, argv++;
     const char *name = argc < 2 ? "" : argv[1];
     int n = argc < 3 ? 0 : atoi(argv[2]);
     if (!strcmp(name, "idle")) idle();
+    else if (!strcmp(name, "readings")) readings();
     else if (!strcmp(name, "full")) full();
     else if (!strcmp(name, "segmented")) segmented();
     else if (!strcmp(name, "damaged")) damaged(n);
@@ -373,7 +407,7 @@ int main(int argc, char **argv)
     else if (!strcmp(name, "nested") && n <= 4096) nested(n);
     else if (!strcmp(name, "message") && n <= 16384) message(n);
     else {
-        fputs("usage: recordings idle | full | segmented | damaged [N] | flat N | nested N | message N\n", stderr);
+        fputs("usage: recordings [octets | raw] idle | readings | full | segmented | damaged [N] | flat N | nested N | message N\n", stderr);
         return 2;
     }
     return 0;

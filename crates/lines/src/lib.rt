@@ -1,126 +1,137 @@
 // A report as a line in words, and as rows of a table. The frame's octets are those of the frame store, the parameters of a message that was
 // rebuilt those of the message area: both as the call that reported left them.
 mod heading;
+mod heard;
 mod message;
 pub mod table;
 
+use crate::heard::Heard;
+use words::fill;
+use words::number;
+use words::one;
 use words::put;
 
-// The length that a report gives: its octets 10 and 11, as it is at most 16,384.
-pub fn length_of(report: [u8; 16]) -> usize {
-    octets::pair(report[10], report[11]) as usize
-}
-
-// A number of octets of some kind, behind a comma.
-fn octets_of(report: [u8; 16], what: &[u8], out: &mut [u8], at: usize) -> usize {
-    let a = put(out, at, b", ");
-    let b = words::number(length_of(report) as u64, out, a);
-    put(out, b, what)
-}
-
-fn frame_type(x: u8, out: &mut [u8], at: usize) -> usize {
-    match x {
-        0 => put(out, at, b"token"),
-        1 => put(out, at, b"poll for master"),
-        2 => put(out, at, b"reply to poll for master"),
-        3 => put(out, at, b"test request"),
-        4 => put(out, at, b"test response"),
-        7 => put(out, at, b"reply postponed"),
-        _ => {
-            let a = put(out, at, b"frame of type ");
-            words::octet(x, out, a)
-        }
+// A frame without a message.
+fn frame(book: &[u8], r: Heard, out: &mut [u8], at: usize) -> usize {
+    let a = fill(
+        book,
+        b"#f, from #n to #s",
+        &[r.frame as u64, r.from as u64, r.to as u64],
+        out,
+        at,
+    );
+    if r.length == 0 {
+        return a;
     }
+    fill(book, b", #n data octets", &[r.length as u64], out, a)
 }
 
-fn frame(report: [u8; 16], out: &mut [u8], at: usize) -> usize {
-    let a = frame_type(report[2], out, at);
-    let b = heading::stations(report, out, a);
-    if length_of(report) == 0 {
-        return b;
-    }
-    octets_of(report, b" data octets", out, b)
+fn damage(book: &[u8], r: Heard, out: &mut [u8], at: usize) -> usize {
+    fill(
+        book,
+        b"damage, #n: #d",
+        &[r.number as u64, r.number as u64],
+        out,
+        at,
+    )
 }
 
-fn damage(n: u8, out: &mut [u8], at: usize) -> usize {
-    let a = put(out, at, b"damage, ");
-    let b = words::octet(n, out, a);
-    let c = put(out, b, b": ");
-    words::numbers::damage(n, out, c)
-}
-
-fn refused(report: [u8; 16], out: &mut [u8], at: usize) -> usize {
-    let a = put(out, at, b"refused, ");
-    let b = words::octet(report[1], out, a);
-    let c = put(out, b, b": ");
-    let d = words::numbers::refusal(report[1], out, c);
-    heading::stations(report, out, d)
-}
-
-// A segment that was taken: its slot and the octets held so far.
-fn segment(report: [u8; 16], data: &[u8], out: &mut [u8], at: usize) -> usize {
-    let a = put(out, at, b"segment of ");
-    let n = npdu::read(data);
-    let h = n.head;
-    let b = heading::message(report, h, out, a);
-    let c = heading::slot(report[7], out, b);
-    octets_of(report, b" octets held", out, c)
+fn refused(book: &[u8], r: Heard, out: &mut [u8], at: usize) -> usize {
+    fill(
+        book,
+        b"refused, #n: #r, from #n to #s",
+        &[
+            r.number as u64,
+            std::num::wrapping_sub_u64(r.number as u64, 10),
+            r.from as u64,
+            r.to as u64,
+        ],
+        out,
+        at,
+    )
 }
 
 // A network layer message: its type by name.
-fn network(report: [u8; 16], data: &[u8], out: &mut [u8], at: usize) -> usize {
-    let a = put(out, at, b"network layer message ");
+fn network(book: &[u8], r: Heard, data: &[u8], out: &mut [u8], at: usize) -> usize {
     let n = npdu::read(data);
     let h = n.head;
-    let b = heading::network(h.kind, out, a);
-    let c = heading::routed(report, h, out, b);
-    octets_of(report, b" octets", out, c)
+    let a = fill(book, b"network layer message #l", &[h.kind as u64], out, at);
+    let b = heading::routed(r, h, out, a);
+    fill(book, b", #n octets", &[r.length as u64], out, b)
 }
 
 // A report in words.
-fn said(
-    report: [u8; 16],
-    data: &[u8],
-    area: &[u8],
-    records: &mut [u8],
-    out: &mut [u8],
-    at: usize,
-) -> usize {
-    match report[0] {
-        1 => frame(report, out, at),
-        2 => damage(report[1], out, at),
-        3 => message::whole(report, data, records, out, at),
-        4 => segment(report, data, out, at),
-        5 => message::complete(report, data, area, records, out, at),
-        6 => refused(report, out, at),
-        _ => network(report, data, out, at),
+fn said(book: &[u8], r: Heard, data: &[u8], area: &[u8], out: &mut [u8], at: usize) -> usize {
+    let kind = r.kind;
+    match kind {
+        1 => frame(book, r, out, at),
+        2 => damage(book, r, out, at),
+        3 => message::whole(book, r, data, out, at),
+        4 => message::segment(book, r, data, out, at),
+        5 => message::complete(book, r, data, area, out, at),
+        6 => refused(book, r, out, at),
+        _ => network(book, r, data, out, at),
     }
 }
 
-// The 16 octets of a report.
-fn row(report: [u8; 16], out: &mut [u8], at: usize) -> usize {
-    let a = put(out, at, b" |");
-    values::long::row(&report, out, a)
+// The end of a line: where wanted, the 16 octets of the report.
+fn end(report: &[u8; 16], wanted: bool, out: &mut [u8], at: usize) -> usize {
+    if wanted {
+        let a = put(out, at, b" |");
+        let b = values::long::row(report, out, a);
+        return one(10, out, b);
+    }
+    one(10, out, at)
+}
+
+// Whether a report is a token for one station: by far the most frequent frame of a trunk.
+fn token(r: Heard) -> bool {
+    r.kind == 1 && r.frame == 0 && r.length == 0 && r.to != 255
+}
+
+// From whom to whom a token goes.
+fn between(r: Heard, out: &mut [u8], at: usize) -> usize {
+    let a = number(r.from as u64, out, at);
+    let b = put(out, a, b" to ");
+    number(r.to as u64, out, b)
+}
+
+// A token's line without a template, which costs half.
+fn passed(heard: u64, r: Heard, out: &mut [u8], at: usize) -> usize {
+    let a = put(out, at, b"octet ");
+    let b = number(heard, out, a);
+    let c = put(out, b, b": token, from ");
+    between(r, out, c)
+}
+
+// A report in words behind the octets heard so far.
+fn told(
+    book: &[u8],
+    heard: u64,
+    r: Heard,
+    data: &[u8],
+    area: &[u8],
+    out: &mut [u8],
+    at: usize,
+) -> usize {
+    if token(r) {
+        return passed(heard, r, out, at);
+    }
+    let a = fill(book, b"octet #n: ", &[heard], out, at);
+    said(book, r, data, area, out, a)
 }
 
 // The line of a report: the octets heard so far, the report in words and, where wanted, its octets.
 pub fn line(
+    book: &[u8],
     heard: u64,
-    report: [u8; 16],
+    report: &[u8; 16],
     data: &[u8],
     area: &[u8],
     wanted: bool,
-    records: &mut [u8],
     out: &mut [u8],
     at: usize,
 ) -> usize {
-    let a = put(out, at, b"octet ");
-    let b = words::number(heard, out, a);
-    let c = put(out, b, b": ");
-    let d = said(report, data, area, records, out, c);
-    if wanted {
-        let e = row(report, out, d);
-        return put(out, e, b"\n");
-    }
-    put(out, d, b"\n")
+    let a = told(book, heard, heard::of(report), data, area, out, at);
+    end(report, wanted, out, a)
 }

@@ -1,46 +1,26 @@
-// A message in words: an unsegmented APDU, or one that was rebuilt.
+// A message in words: an unsegmented APDU, a segment, or a message that was rebuilt.
 use crate::heading;
-use crate::length_of;
+use crate::heard::Heard;
 use apdu::Answer;
 use apdu::Pdu;
 use apdu::SegmentAckPdu;
+use words::fill;
 use words::put;
-
-// Service parameters behind a colon.
-fn params(kind: u8, choice: u8, s: &[u8], records: &mut [u8], out: &mut [u8], at: usize) -> usize {
-    let a = put(out, at, b": ");
-    values::service::text(kind, choice, s, records, out, a)
-}
-
-fn reject(reason: u8, out: &mut [u8], at: usize) -> usize {
-    let a = put(out, at, b": ");
-    let b = words::faults::reject(reason, out, a);
-    if a == b {
-        return words::octet(reason, out, a);
-    }
-    b
-}
-
-fn abort(reason: u8, out: &mut [u8], at: usize) -> usize {
-    let a = put(out, at, b": ");
-    let b = words::faults::abort(reason, out, a);
-    if a == b {
-        return words::octet(reason, out, a);
-    }
-    b
-}
 
 // A segment ack: the segment's number, the window, whether it is negative, and who acknowledges.
 fn segment_ack(p: SegmentAckPdu, out: &mut [u8], at: usize) -> usize {
-    let a = put(out, at, b": segment ");
-    let b = words::octet(p.number, out, a);
-    let c = put(out, b, b", window ");
-    let d = words::octet(p.window, out, c);
-    let e = negative(p.nak, out, d);
+    let a = fill(
+        &[],
+        b": segment #n, window #n",
+        &[p.number as u64, p.window as u64],
+        out,
+        at,
+    );
+    let b = negative(p.nak, out, a);
     if p.srv {
-        return put(out, e, b", by the server");
+        return put(out, b, b", by the server");
     }
-    put(out, e, b", by the client")
+    put(out, b, b", by the client")
 }
 
 fn negative(nak: bool, out: &mut [u8], at: usize) -> usize {
@@ -50,70 +30,101 @@ fn negative(nak: bool, out: &mut [u8], at: usize) -> usize {
     at
 }
 
-// What a PDU says behind its heading.
-fn said(p: Pdu, s: &[u8], records: &mut [u8], out: &mut [u8], at: usize) -> usize {
-    let rest = show::part(s, apdu::fields::params_at(p), s.len());
+// What a PDU without parameters says.
+fn bare(book: &[u8], p: Pdu, out: &mut [u8], at: usize) -> usize {
     match p {
-        Pdu::Request(q) => params(0, q.choice, rest, records, out, at),
-        Pdu::Unconfirmed(q) => params(1, q.choice, rest, records, out, at),
-        Pdu::SimpleAck(_) => at,
-        Pdu::ComplexAck(q) => params(3, q.choice, rest, records, out, at),
         Pdu::SegmentAck(q) => segment_ack(q, out, at),
-        Pdu::Error(q) => params(5, q.choice, rest, records, out, at),
-        Pdu::Reject(q) => reject(q.reason, out, at),
-        Pdu::Abort(q) => abort(q.reason, out, at),
+        Pdu::Reject(q) => fill(book, b": #j", &[q.reason as u64], out, at),
+        Pdu::Abort(q) => fill(book, b": #a", &[q.reason as u64], out, at),
+        Pdu::Request(_) => at,
+        Pdu::Unconfirmed(_) => at,
+        Pdu::SimpleAck(_) => at,
+        Pdu::ComplexAck(_) => at,
+        Pdu::Error(_) => at,
+    }
+}
+
+// Where the parameters of an unsegmented APDU of this kind begin; 0 where it has none.
+pub fn begins(kind: u8) -> usize {
+    match kind {
+        0 => 4,
+        1 => 2,
+        3 => 3,
+        5 => 3,
+        _ => 0,
+    }
+}
+
+// Service parameters behind a colon.
+fn params(book: &[u8], r: Heard, s: &[u8], out: &mut [u8], at: usize) -> usize {
+    let a = put(out, at, b": ");
+    values::service::text(book, r.first / 16, r.choice, s, out, a)
+}
+
+// What an unsegmented APDU says behind its heading.
+fn said(book: &[u8], r: Heard, s: &[u8], out: &mut [u8], at: usize) -> usize {
+    let from = begins(r.first / 16);
+    if 0 < from {
+        return params(book, r, show::part(s, from, s.len()), out, at);
+    }
+    let p = apdu::read(s);
+    match p {
+        Answer::Good(q) => bare(book, q, out, at),
+        Answer::Refused(_) => at,
     }
 }
 
 // An unsegmented APDU: its octets stand behind the network header.
-pub fn whole(
-    report: [u8; 16],
-    data: &[u8],
-    records: &mut [u8],
-    out: &mut [u8],
-    at: usize,
-) -> usize {
+pub fn whole(book: &[u8], r: Heard, data: &[u8], out: &mut [u8], at: usize) -> usize {
+    if heading::local(r.first, data) {
+        let a = heading::near(book, r, out, at);
+        return said(book, r, values::span(data, 2, r.length as usize), out, a);
+    }
     let n = npdu::read(data);
     let h = n.head;
-    let a = heading::message(report, h, out, at);
-    let s = values::span(data, n.next, length_of(report));
-    let p = apdu::read(s);
-    match p {
-        Answer::Good(q) => said(q, s, records, out, a),
-        Answer::Refused(_) => a,
-    }
+    let a = heading::message(book, r, h, out, at);
+    said(
+        book,
+        r,
+        values::span(data, n.next, r.length as usize),
+        out,
+        a,
+    )
 }
 
-// "Slot s owns message area octets 16384 s to 16384 s + 16383".
-fn slot_at(slot: u8) -> usize {
-    (slot as usize) * 16384
+// A segment that was taken: its slot and the octets held so far.
+pub fn segment(book: &[u8], r: Heard, data: &[u8], out: &mut [u8], at: usize) -> usize {
+    let a = put(out, at, b"segment of ");
+    let n = npdu::read(data);
+    let h = n.head;
+    let b = heading::message(book, r, h, out, a);
+    fill(
+        &[],
+        b", slot #n, #n octets held",
+        &[r.slot as u64, r.length as u64],
+        out,
+        b,
+    )
 }
 
-// The parameters of a message that was rebuilt: in its slot of the message area.
-pub fn rebuilt(report: [u8; 16], area: &[u8]) -> &[u8] {
-    values::span(area, slot_at(report[7]), length_of(report))
+// The parameters of a message that was rebuilt: "Slot s owns message area octets 16384 s to 16384 s + 16383".
+pub fn rebuilt(r: Heard, area: &[u8]) -> &[u8] {
+    values::span(area, octets::wide(r.slot) * 16384, r.length as usize)
 }
 
 // A message that was rebuilt.
 pub fn complete(
-    report: [u8; 16],
+    book: &[u8],
+    r: Heard,
     data: &[u8],
     area: &[u8],
-    records: &mut [u8],
     out: &mut [u8],
     at: usize,
 ) -> usize {
+    let a = put(out, at, b"complete: ");
     let n = npdu::read(data);
     let h = n.head;
-    let a = put(out, at, b"complete: ");
-    let b = heading::message(report, h, out, a);
-    let c = heading::slot(report[7], out, b);
-    params(
-        report[5] / 16,
-        report[12],
-        rebuilt(report, area),
-        records,
-        out,
-        c,
-    )
+    let b = heading::message(book, r, h, out, a);
+    let c = fill(&[], b", slot #n", &[r.slot as u64], out, b);
+    params(book, r, rebuilt(r, area), out, c)
 }

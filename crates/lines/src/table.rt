@@ -1,9 +1,11 @@
 // A report as rows of a table: a row for each item that a ReadProperty ack or a WriteProperty request carries.
 use crate::heading;
-use crate::length_of;
-use crate::message::rebuilt;
+use crate::heard;
+use crate::heard::Heard;
+use crate::message;
 use npdu::Npdu;
 use values::table::Told;
+use words::fill;
 use words::put;
 
 // The table's first line.
@@ -16,27 +18,12 @@ pub fn head(out: &mut [u8], at: usize) -> usize {
 }
 
 // The cells in front of the object type.
-fn front(heard: u64, report: [u8; 16], h: Npdu, out: &mut [u8]) -> usize {
-    let a = words::number(heard, out, 0);
-    let b = put(out, a, b",");
-    let c = heading::source(report, h, out, b);
-    let d = put(out, c, b",");
-    let e = heading::destination(report, h, out, d);
-    service(report, out, e)
-}
-
-fn service(report: [u8; 16], out: &mut [u8], at: usize) -> usize {
-    let a = put(out, at, b",");
-    let b = heading::pdu(report[5], report[12], out, a);
-    put(out, b, b",")
-}
-
-// Where the parameters of an unsegmented APDU of this kind begin: those that can carry a value.
-fn begins(kind: u8) -> usize {
-    if kind == 0 {
-        return 4;
-    }
-    3
+fn front(book: &[u8], place: u64, r: Heard, h: Npdu, out: &mut [u8]) -> usize {
+    let a = fill(book, b"#n,", &[place], out, 0);
+    let b = heading::stations(r, h, out, a);
+    let c = put(out, b, b",");
+    let d = heading::pdu(book, r.first, r.choice, out, c);
+    put(out, d, b",")
 }
 
 fn none(at: usize) -> Told {
@@ -47,62 +34,77 @@ fn none(at: usize) -> Told {
     }
 }
 
-// Whether a PDU carries a value: a ReadProperty ack, or a WriteProperty request.
-fn carries(kind: u8, choice: u8) -> bool {
-    if kind == 3 {
-        return choice == 12;
+// Whether a report carries a value: a message, rebuilt or not, that is a ReadProperty ack or a WriteProperty request.
+fn carries(r: Heard) -> bool {
+    if r.kind != 3 && r.kind != 5 {
+        return false;
     }
-    if kind == 0 {
-        return choice == 15;
+    if r.first / 16 == 3 {
+        return r.choice == 12;
     }
-    false
+    r.first / 16 == 0 && r.choice == 15
+}
+
+// The parameters of a message: in its slot of the area, or behind the APDU's header in the frame.
+fn params(r: Heard, from: usize, data: &[u8]) -> &[u8] {
+    let s = values::span(data, from, r.length as usize);
+    show::part(s, message::begins(r.first / 16), s.len())
 }
 
 // The rows of a report from an item on; none of a report that carries no value.
 pub fn rows(
-    heard: u64,
-    report: [u8; 16],
+    book: &[u8],
+    place: u64,
+    report: &[u8; 16],
     data: &[u8],
     area: &[u8],
     from: usize,
-    records: &mut [u8],
     out: &mut [u8],
     at: usize,
 ) -> Told {
-    let kind = report[5] / 16;
-    if !carries(kind, report[12]) {
-        return none(at);
+    let r = heard::of(report);
+    if carries(r) {
+        return carried(book, place, r, data, area, from, out, at);
     }
+    none(at)
+}
+
+fn carried(
+    book: &[u8],
+    place: u64,
+    r: Heard,
+    data: &[u8],
+    area: &[u8],
+    from: usize,
+    out: &mut [u8],
+    at: usize,
+) -> Told {
     let mut cells = [0u8; 256];
     let n = npdu::read(data);
     let h = n.head;
-    let used = front(heard, report, h, &mut cells);
-    if report[0] == 5 {
+    let used = front(book, place, r, h, &mut cells);
+    let kind = r.first / 16;
+    if r.kind == 5 {
         return values::table::rows(
+            book,
             kind,
-            report[12],
-            rebuilt(report, area),
+            r.choice,
+            message::rebuilt(r, area),
             from,
             &mut cells,
             used,
-            records,
             out,
             at,
         );
     }
-    if report[0] != 3 {
-        return none(at);
-    }
-    let s = values::span(data, n.next, length_of(report));
-    let rest = show::part(s, begins(kind), s.len());
     values::table::rows(
+        book,
         kind,
-        report[12],
-        rest,
+        r.choice,
+        params(r, n.next, data),
         from,
         &mut cells,
         used,
-        records,
         out,
         at,
     )

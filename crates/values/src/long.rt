@@ -1,13 +1,13 @@
 // Contents of any length as text: octets, characters and bits. Where fewer than 96 octets of the area are left, the rest is cut and counted.
+use words::fill;
+use words::one;
 use words::put;
 use words::room;
 use words::two;
 
 // What is said of contents that were cut.
 pub fn left(n: usize, out: &mut [u8], at: usize) -> usize {
-    let a = put(out, at, b".. ");
-    let b = words::number(n as u64, out, a);
-    put(out, b, b" octets left")
+    fill(&[], b".. #n octets left", &[n as u64], out, at)
 }
 
 // Octets as hexadecimal digits.
@@ -24,30 +24,37 @@ pub fn octets(c: &[u8], out: &mut [u8], at: usize) -> usize {
     to
 }
 
-// A character of a quoted text: controls as \xNN, a backslash twice, a quote as the table or the line wants it.
-fn character(x: u8, table: bool, out: &mut [u8], at: usize) -> usize {
+// What stands in front of a character of a quoted text: a quote is written twice in a table and behind a backslash in a line, as is a
+// backslash in both; 0 for nothing.
+fn guard(x: u8, table: bool) -> u8 {
+    if x == 92 {
+        return 92;
+    }
     if x == 34 {
         if table {
-            return put(out, at, b"\"\"");
+            return 34;
         }
-        return put(out, at, b"\\\"");
+        return 92;
     }
-    if x == 92 {
-        return put(out, at, b"\\\\");
-    }
-    if x < 32 {
+    0
+}
+
+// A character of a quoted text: controls as \xNN.
+fn character(x: u8, table: bool, out: &mut [u8], at: usize) -> usize {
+    if x < 32 || x == 127 {
         let a = put(out, at, b"\\x");
         return two(x, out, a);
     }
-    if x == 127 {
-        return put(out, at, b"\\x7F");
+    let g = guard(x, table);
+    if g == 0 {
+        return one(x, out, at);
     }
-    put(out, at, &[x])
+    put(out, at, &[g, x])
 }
 
 // Characters of one octet each in quotes: ASCII and UTF-8 as they stand.
 fn plain(c: &[u8], table: bool, out: &mut [u8], at: usize) -> usize {
-    let mut to = put(out, at, b"\"");
+    let mut to = one(34, out, at);
     let mut i = 1;
     while i < c.len() {
         if room(out, to) < 96 {
@@ -57,7 +64,12 @@ fn plain(c: &[u8], table: bool, out: &mut [u8], at: usize) -> usize {
         to = character(c[i], table, out, to);
         i += 1;
     }
-    put(out, to, b"\"")
+    one(34, out, to)
+}
+
+// The number of a set of characters.
+fn set(x: u8, out: &mut [u8], at: usize) -> usize {
+    fill(&[], b"set #n: ", &[x as u64], out, at)
 }
 
 // A text: set 0 in quotes, another set as its number and octets.
@@ -68,32 +80,18 @@ pub fn characters(c: &[u8], table: bool, out: &mut [u8], at: usize) -> usize {
     if c[0] == 0 {
         return plain(c, table, out, at);
     }
-    let a = put(out, at, b"set ");
-    let b = words::octet(c[0], out, a);
-    let d = put(out, b, b": ");
-    octets(&c[1..], out, d)
-}
-
-// A bit of an octet, the first is the highest.
-fn bit(x: u8, k: u8) -> u8 {
-    match k {
-        0 => x / 128,
-        1 => x / 64 % 2,
-        2 => x / 32 % 2,
-        3 => x / 16 % 2,
-        4 => x / 8 % 2,
-        5 => x / 4 % 2,
-        6 => x / 2 % 2,
-        _ => x % 2,
-    }
+    let a = set(c[0], out, at);
+    octets(&c[1..], out, a)
 }
 
 // The first n bits of an octet, as digits.
 fn digits(x: u8, n: u8, out: &mut [u8], at: usize) -> usize {
     let mut to = at;
+    let mut rest = x;
     let mut k = 0;
     while k < n {
-        to = put(out, to, &[48 + bit(x, k) % 2]);
+        to = one(48 + rest / 128 % 2, out, to);
+        rest = rest % 128 * 2;
         k += 1;
     }
     to
@@ -124,18 +122,13 @@ pub fn bits(c: &[u8], out: &mut [u8], at: usize) -> usize {
     to
 }
 
-// An octet as hexadecimal digits behind a space.
-fn behind(x: u8, out: &mut [u8], at: usize) -> usize {
-    let a = put(out, at, b" ");
-    two(x, out, a)
-}
-
 // Octets as hexadecimal digits, each behind a space.
 pub fn row(c: &[u8], out: &mut [u8], at: usize) -> usize {
     let mut to = at;
     let mut i = 0;
     while i < c.len() {
-        to = behind(c[i], out, to);
+        to = one(32, out, to);
+        to = two(c[i], out, to);
         i += 1;
     }
     to

@@ -1,13 +1,14 @@
-// Words on a line: text, numbers and octets put into a lent area, and the standard's names for numbers.
+// Words on a line: text, numbers, and the standard's names for numbers, put into a lent area.
 // Each call takes the area and a place, writes from there as far as the area goes, and answers the place after what it wrote.
-pub mod choices;
-pub mod faults;
-pub mod kinds;
-pub mod numbers;
-pub mod objects;
-pub mod properties;
+mod index;
+mod names;
+mod template;
 
-ghost use Prim.Native.Nat.{_≤_};
+pub use index::name;
+pub use names::SIZE;
+pub use names::book;
+pub use template::fill;
+ghost use Prim.Native.Nat.{_+_, _≤_};
 ghost use lib.ListN.{length};
 
 // Text; one that does not fit is not written.
@@ -24,42 +25,13 @@ pub fn put(out: &mut [u8], at: usize, text: &[u8]) -> usize
     at + text.len()
 }
 
-// The place of the k-th of words with one space between, or the end.
-fn word_at(text: &[u8], k: u8) -> usize {
-    let mut left = k;
-    let mut i = 0;
-    while i < text.len() {
-        if left == 0 {
-            return i;
-        }
-        if text[i] == 32 {
-            left -= 1;
-        }
-        i += 1;
+// One octet.
+pub fn one(x: u8, out: &mut [u8], at: usize) -> usize {
+    if at < out.len() {
+        out[at] = x;
+        return at + 1;
     }
-    i
-}
-
-// The place of the first space from a place on, or the end.
-fn space_at(text: &[u8], from: usize) -> usize {
-    let mut i = from;
-    while i < text.len() {
-        if text[i] == 32 {
-            return i;
-        }
-        i += 1;
-    }
-    i
-}
-
-// The k-th of words with one space between; `-` stands for one that is not there, and nothing is written for it.
-pub fn word(text: &[u8], k: u8, out: &mut [u8], at: usize) -> usize {
-    let from = word_at(text, k);
-    let w = show::part(text, from, space_at(text, from));
-    if w.len() < 2 {
-        return at;
-    }
-    put(out, at, w)
+    at
 }
 
 // How many octets the area has from a place on.
@@ -70,19 +42,68 @@ pub fn room(out: &[u8], at: usize) -> usize {
     out.len() - at
 }
 
-// A number in decimal.
-pub fn number(n: u64, out: &mut [u8], at: usize) -> usize {
-    let mut text = [0u8; 20];
-    let k = io::decimal(n, &mut text);
-    put(out, at, &text[..k])
+// How many decimal digits a number below ten thousand has.
+fn width(n: u64) -> usize
+    ensures { λ r. ⌜ r ≤ 4 ⌝ }
+{
+    if n < 10 {
+        return 1;
+    }
+    if n < 100 {
+        return 2;
+    }
+    if n < 1000 {
+        return 3;
+    }
+    4
 }
 
-// An octet in decimal.
-pub fn octet(x: u8, out: &mut [u8], at: usize) -> usize {
-    if x < 10 {
-        return put(out, at, &[48 + x]);
+// The same of any number: four digits at a time.
+fn widths(n: u64) -> usize
+    ensures { λ r. ⌜ r ≤ 20 ⌝ }
+{
+    if n < 10000 {
+        return width(n);
     }
-    number(x as u64, out, at)
+    if n < 100000000 {
+        return 4 + width(n / 10000);
+    }
+    if n < 1000000000000 {
+        return 8 + width(n / 100000000);
+    }
+    if n < 10000000000000000 {
+        return 12 + width(n / 1000000000000);
+    }
+    16 + width(n / 10000000000000000)
+}
+
+// The last k decimal digits of a number at a place.
+fn digits(n: u64, k: usize, out: &mut [u8], at: usize)
+    requires { ⌜ at + k ≤ length (now out) ⌝ }
+{
+    let mut left = n;
+    let mut i = k;
+    while 0 < i {
+        i -= 1;
+        out[at + i] = 48 + (left % 10) as u8;
+        left = left / 10;
+    }
+}
+
+// A number in decimal.
+pub fn number(n: u64, out: &mut [u8], at: usize) -> usize {
+    if n < 10 {
+        return one(48 + n as u8, out, at);
+    }
+    let k = widths(n);
+    if out.len() < at {
+        return at;
+    }
+    if out.len() - at < k {
+        return at;
+    }
+    digits(n, k, out, at);
+    at + k
 }
 
 fn digit(x: u8) -> u8 {
@@ -95,13 +116,6 @@ fn digit(x: u8) -> u8 {
 
 // An octet as two hexadecimal digits.
 pub fn two(x: u8, out: &mut [u8], at: usize) -> usize {
-    put(out, at, &[digit(x / 16), digit(x)])
-}
-
-// A number as two decimal digits, for dates and times.
-pub fn clock(x: u8, out: &mut [u8], at: usize) -> usize {
-    if 99 < x {
-        return octet(x, out, at);
-    }
-    put(out, at, &[48 + x / 10, 48 + x % 10])
+    let a = one(digit(x / 16), out, at);
+    one(digit(x), out, a)
 }

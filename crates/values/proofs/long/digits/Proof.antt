@@ -6,25 +6,22 @@ use Rattle.values.proofs.long.digits.Statement.{statement}
 use Rattle.values.proofs.long.digits.Tie as tie
 
 abbrev Inv-loop : tie.InvT-loop
-Inv-loop x n out₀ at to₀ k₀ out to k = length out ≡ length out₀
+Inv-loop x n out₀ at to₀ rest₀ k₀ out to rest k = length out ≡ length out₀
 
 abbrev μ-loop : tie.MeasureT-loop
-μ-loop x n out₀ at to₀ k₀ out to k = n - k
+μ-loop x n out₀ at to₀ rest₀ k₀ out to rest k = n - k
 
 loop-holds : tie.Need-loop-holds Inv-loop μ-loop
 loop-holds c = search needs
 
-bit-requires : tie.Need-bit-requires Inv-loop μ-loop
-bit-requires c κs = search needs
+add-one : tie.Need-add-one Inv-loop μ-loop
+add-one c = search needs
 
-add-t13 : tie.Need-add-t13 Inv-loop μ-loop
-add-t13 c = search needs
+one-requires : tie.Need-one-requires Inv-loop μ-loop
+one-requires c κs = search needs
 
-slice-aggregate-put : tie.Need-slice-aggregate-put Inv-loop μ-loop
-slice-aggregate-put c = search needs
-
-put-requires : tie.Need-put-requires Inv-loop μ-loop
-put-requires c κs = search needs
+mul-rest : tie.Need-mul-rest Inv-loop μ-loop
+mul-rest c = search needs
 
 add-k : tie.Need-add-k Inv-loop μ-loop
 add-k c = search needs
@@ -48,10 +45,9 @@ digits-spec =
     Inv-loop
     μ-loop
     loop-holds
-    bit-requires
-    add-t13
-    slice-aggregate-put
-    put-requires
+    add-one
+    one-requires
+    mul-rest
     add-k
     loop-less
     loop-again

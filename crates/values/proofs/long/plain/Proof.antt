@@ -6,16 +6,13 @@ use Rattle.values.proofs.long.plain.Statement.{statement}
 use Rattle.values.proofs.long.plain.Tie as tie
 
 abbrev Inv-loop : tie.InvT-loop
-Inv-loop c table out₀ at to₀ i₀ t9 t10 out to i = length out ≡ length out₀
+Inv-loop c table out₀ at to₀ i₀ t8 out to i = length out ≡ length out₀
 
 abbrev μ-loop : tie.MeasureT-loop
-μ-loop c table out₀ at to₀ i₀ t9 t10 out to i = length c - i
+μ-loop c table out₀ at to₀ i₀ t8 out to i = length c - i
 
-slice-aggregate-put : tie.Need-slice-aggregate-put Inv-loop μ-loop
-slice-aggregate-put c = search needs
-
-put-requires : tie.Need-put-requires Inv-loop μ-loop
-put-requires c κs = search needs
+one-requires : tie.Need-one-requires Inv-loop μ-loop
+one-requires c κs = search needs
 
 loop-holds : tie.Need-loop-holds Inv-loop μ-loop
 loop-holds c = search needs
@@ -23,11 +20,11 @@ loop-holds c = search needs
 room-requires : tie.Need-room-requires Inv-loop μ-loop
 room-requires c κs = search needs
 
-slice-aggregate-put-2 : tie.Need-slice-aggregate-put-2 Inv-loop μ-loop
-slice-aggregate-put-2 c = search needs
+slice-aggregate-put : tie.Need-slice-aggregate-put Inv-loop μ-loop
+slice-aggregate-put c = search needs
 
-put-requires-2 : tie.Need-put-requires-2 Inv-loop μ-loop
-put-requires-2 c κs = search needs
+put-requires : tie.Need-put-requires Inv-loop μ-loop
+put-requires c κs = search needs
 
 sub-left : tie.Need-sub-left Inv-loop μ-loop
 sub-left c = search needs
@@ -56,11 +53,8 @@ loop-less c = search needs
 loop-again : tie.Need-loop-again Inv-loop μ-loop
 loop-again c = search needs
 
-slice-aggregate-put-3 : tie.Need-slice-aggregate-put-3 Inv-loop μ-loop
-slice-aggregate-put-3 c = search needs
-
-put-requires-3 : tie.Need-put-requires-3 Inv-loop μ-loop
-put-requires-3 c κs = search needs
+one-requires-2 : tie.Need-one-requires-2 Inv-loop μ-loop
+one-requires-2 c κs = search needs
 
 same-length-2 : tie.Need-same-length-2 Inv-loop μ-loop
 same-length-2 c = search needs
@@ -74,12 +68,11 @@ plain-spec =
     (tie.spec
     Inv-loop
     μ-loop
-    slice-aggregate-put
-    put-requires
+    one-requires
     loop-holds
     room-requires
-    slice-aggregate-put-2
-    put-requires-2
+    slice-aggregate-put
+    put-requires
     sub-left
     left-requires
     same-length
@@ -89,7 +82,6 @@ plain-spec =
     add-i
     loop-less
     loop-again
-    slice-aggregate-put-3
-    put-requires-3
+    one-requires-2
     same-length-2
     returns-2)

@@ -14,11 +14,14 @@ abbrev μ-loop : tie.MeasureT-loop
 loop-holds : tie.Need-loop-holds Inv-loop μ-loop
 loop-holds c = search needs
 
-shared-slice-read-behind : tie.Need-shared-slice-read-behind Inv-loop μ-loop
-shared-slice-read-behind c = search needs
+one-requires : tie.Need-one-requires Inv-loop μ-loop
+one-requires c κs = search needs
 
-behind-requires : tie.Need-behind-requires Inv-loop μ-loop
-behind-requires c κs = search needs
+shared-slice-read-two : tie.Need-shared-slice-read-two Inv-loop μ-loop
+shared-slice-read-two c = search needs
+
+two-requires : tie.Need-two-requires Inv-loop μ-loop
+two-requires c κs = search needs
 
 add-i : tie.Need-add-i Inv-loop μ-loop
 add-i c = search needs
@@ -42,8 +45,9 @@ row-spec =
     Inv-loop
     μ-loop
     loop-holds
-    shared-slice-read-behind
-    behind-requires
+    one-requires
+    shared-slice-read-two
+    two-requires
     add-i
     loop-less
     loop-again
