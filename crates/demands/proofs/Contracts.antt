@@ -29,6 +29,7 @@ contracts =
       services-write = λ κ1 κ2 v value out out′ r. itself;
       reader-first = λ κ1 s r. itself;
       reader-step-at = λ κ1 s at r. itself;
+      reader-step-from = λ κ1 s at r. itself;
       rebuild-take = λ κ1 κ2 t g o area area′ r. itself;
       rebuild-forget = λ t s r. itself;
       collector-fresh = λ r. itself;

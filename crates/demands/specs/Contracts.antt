@@ -79,6 +79,7 @@ use Rattle.services.proofs.read.Reads as services-read-call
 use Rattle.service_writer.proofs.write.Reads as services-write-call
 use Rattle.reader.proofs.first.Reads as reader-first-call
 use Rattle.reader.proofs.step_at.Reads as reader-step-at-call
+use Rattle.reader.proofs.step_from.Reads as reader-step-from-call
 use Rattle.rebuild.proofs.take.Reads as rebuild-take-call
 use Rattle.rebuild.proofs.forget.Reads as rebuild-forget-call
 use Rattle.collector.proofs.Collector.fresh.Reads as collector-fresh-call
@@ -178,6 +179,10 @@ pub record Contracts : Type 0 where
       (r ≡ stepOf (now s) 0)
   pub reader-step-at : (κ1 : Lft) (s : RefT (List ℕ)) (at : ℕ) (r : ReaderStep)
       → Contract (reader-step-at-call.Pre (κ1, tt) (s, (at, tt))) (reader-step-at-call.Post (κ1, tt) (s, (at, tt)) r (s, (at, tt)))
+      (r ≡ stepOf (now s) at)
+  -- `next`, of the reader that `new` made and `moved` brought to the place: those three hold a reference and have no plain reading
+  pub reader-step-from : (κ1 : Lft) (s : RefT (List ℕ)) (at : ℕ) (r : ReaderStep)
+      → Contract (reader-step-from-call.Pre (κ1, tt) (s, (at, tt))) (reader-step-from-call.Post (κ1, tt) (s, (at, tt)) r (s, (at, tt)))
       (r ≡ stepOf (now s) at)
   pub rebuild-take : (κ1 κ2 : Lft) (t : Slots) (g : Head) (o area area′ : RefT (List ℕ)) (r : Taken)
       → Contract (rebuild-take-call.Pre (κ1, (κ2, tt)) (t, (g, (o, (area, tt))))) (rebuild-take-call.Post (κ1, (κ2, tt)) (t, (g, (o, (area, tt)))) r (t, (g, (o, (area′, tt)))))

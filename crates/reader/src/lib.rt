@@ -100,9 +100,17 @@ pub fn moved<'a>(r: Reader<'a>, at: usize) -> Reader<'a>
     }
 }
 
-// The first step of a new reader.
+// The step of a reader that was moved to a place: over plain parameters, so that its contract, and with it those of `new`, `moved` and
+// `next`, can be cited.
+pub fn step_from(params: &[u8], at: usize) -> Step
+    ensures { λ r. ⌜ r ≡ stepOf (now (params .entry)) at ⌝ }
+{
+    next(moved(new(params), at))
+}
+
+// The first step.
 pub fn first(params: &[u8]) -> Step
     ensures { λ r. ⌜ r ≡ stepOf (now (params .entry)) 0 ⌝ }
 {
-    next(new(params))
+    step_from(params, 0)
 }
