@@ -1,4 +1,4 @@
--- The numbers of items are 30 to 39: what holds of 30 to 38 holds of every refusal of one item, and with 39 of every refusal of a run of them.
+-- The numbers of items are 30 to 39: what holds of 30 to 38 holds of every refusal of one item within 16,384 octets, and with 39 of every refusal of a run of them.
 use Prim.Native.Nat.{ℕ, zero, suc, _+_, _-_, _≤_}
 use native.Mathlib.Omega.{arith}
 use mathlib.Core.List.{List, [], _∷_}

@@ -14,7 +14,7 @@ use Rattle.items.specs.declared.Tally.{Tally}
 use Rattle.items.specs.declared.Tally.the-variants.{Items}
 use Rattle.items.specs.declared.One.{One}
 
--- "At most 2,048 items, 16 open"
+-- 38: "a 2,049th item begins"; 37: "opening with 16 open"
 abbrev pub mostItems : ℕ
 mostItems = 2048
 

@@ -1,4 +1,4 @@
--- "Given exactly when": the rows 30 to 39 over a run of items, in the page's words and apart from any reading: good items in front, and what stands behind them.
+-- "Given exactly when": the rows 30 to 39 over a run of items, in the page's words and apart from any reading: good items in front, and what is behind them.
 use Prim.Native.Nat.{ℕ, _≤_, _<_}
 use mathlib.Core.Path.{_≡_}
 use mathlib.Core.List.{List, [], _∷_, _++_}
@@ -31,7 +31,8 @@ pub record GoodFront (o : List ℕ) (ts : List Thing) (gs r : List ℕ) : Type 0
   pub leads : Leads [] ts gs
   pub most : length ts ≤ 2048
 
--- the row that the octets r break behind i good items with the groups gs open: the end, or the next item's own octets. "within one, by row order": 38 comes first.
+-- the row that the octets r break behind i good items with the groups gs open. "within one, by row order": where an item begins, 38 comes first; a tag whose
+-- own rows are kept is good, so that 35 and 37 stand behind 30 to 32.
 pub data Behind (x i : ℕ) (gs r : List ℕ) : Type 0 where
   -- 36: "end with a group open"
   ends-open : x ≡ 36 → r ≡ [] → 0 < length gs → Behind x i gs r
