@@ -2,7 +2,8 @@
 //
 //     NAME numbers.. [/ OCTETS [/ OCTETS]]
 //
-// Octets are hexadecimal, XX*N is N times one; an area that is lent for output is full of EE. A line that is empty or begins with # is a heading.
+// Octets are hexadecimal, XX*N is N times one; an area that is lent for output is full of EE. A line that is empty or begins with # is a heading,
+// and every line ends in a line feed.
 mod areas;
 mod asked;
 mod checks;
