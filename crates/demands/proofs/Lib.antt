@@ -23,5 +23,6 @@ pub mod Exported
 pub mod OneExported
 pub mod ServicesBack
 pub mod ReportsWorked
+pub mod Reported
 pub mod RecordOctets
 pub mod ServiceRows

@@ -12,5 +12,6 @@ pub mod Completed
 pub mod Damage
 pub mod Exported
 pub mod ReportsWorked
+pub mod Reported
 pub mod RecordOctets
 pub mod ServiceRows
