@@ -29,16 +29,17 @@ use Rattle.messages.specs.Rows.{Answer, rebuild}
 use Rattle.messages.specs.Rows.Answer.{refused, taken, completed}
 use Rattle.rebuild.specs.View.{keys}
 use Rattle.rebuild.specs.declared.Key.{Key}
+use Rattle.recordings.specs.Frames.{actOn, rules}
 use Rattle.reports.specs.Layout.{reportOctets}
 use Rattle.reports.specs.Kinds.{otherFrame, unsegmented, segmentTaken, complete, refusal, networkMessage, damaged}
 use Rattle.reports.specs.declared.Report.{Report}
 use Rattle.reports.specs.declared.Apdu.{Apdu as Told}
 use Rattle.collector.specs.Heard.{Route, routeOf, heardOf, partsOf}
-use Rattle.collector.specs.Frame.{Content, contentOf, npduContent, apduContent, segmentIn, byTags, plainReport, answeredReport, segmentAt, plainAt, answeredAt}
+use Rattle.collector.specs.Frame.{Content, contentOf, npduContent, apduContent, segmentIn, byTags, plainReport, answeredReport, segmentAt, plainAt, answeredAt, bacnet}
 use Rattle.collector.specs.Frame.Content.{other, refuses, network, refusesBehind, message}
 use Rattle.collector.specs.declared.heard.Parts.{Parts}
 use Rattle.collector.proofs.Content.{content-5, content-6, content-other, npdu-refused, npdu-network, npdu-apdu, apdu-refused, apdu-good, tags-put, tags-turn}
-use Rattle.demands.specs.Reported.{ReportLaid, FiveOrSix, Behind, Carries, PlainReport, FrameReports, CarriesSegment, SegmentIs, kind1, kind3, kind6, kind7, invokeIn, choiceIn, segIn}
+use Rattle.demands.specs.Reported.{ReportLaid, FiveOrSix, Behind, Carries, PlainReport, FrameReports, CarriesSegment, SegmentIs, SegmentReport, SegmentReported, Reported, GoodFrameReported, DamageReported, FeedReports, kind1, kind3, kind4, kind5, kind6, kind7, invokeIn, choiceIn, segIn}
 use Rattle.demands.specs.Reported.CarriesSegment.{request, complex-ack}
 
 pub report-laid : ReportLaid
@@ -191,3 +192,81 @@ module _ (h d : List ℕ) where
 
 pub frame-reports : FrameReports
 frame-reports h d o = (λ k. plain-reported h d (k .0) (k .1), λ r. plain-is h d r)
+
+-- ---- the segment that a good frame carries
+module _ (h d : List ℕ) where
+  -- a content that is no APDU with SEG carries none
+  none-here : {x : Content} {g : Segment Key} {P : Type 0} → contentOf (heardOf h) d ≡ x → segmentIn (heardOf h) x ≡ none → segmentAt (good h d) ≡ some g → P
+  none-here e z q = let k = sym z ∙ sym (segment-by h d e) ∙ q in impossible (cc)
+
+  not-seg : {a t : List ℕ} {g : Segment Key} {P : Type 0} (p : Pdu) → Carries h d a p t → segIn p ≡ false → segmentAt (good h d) ≡ some g → P
+  not-seg {a} {t} p c e q = let k = sym (unsegmented-none h d a t p c e) ∙ q in impossible (cc)
+
+  -- the one that a PDU with SEG is
+  abbrev made : Pdu → List ℕ → List ℕ → Segment Key
+  made p a t =
+      record {
+        key = record { source = oct h 2; destination = oct h 1; kind = partsOf p (oct a 0) .kind; invoke = invokeIn p };
+        number = partsOf p (oct a 0) .segment .number;
+        mor = partsOf p (oct a 0) .segment .mor;
+        choice = choiceIn p;
+        octets = t;
+      }
+
+  made-of : {a t : List ℕ} (p : Pdu) → Carries h d a p t → segIn p ≡ true → segmentAt (good h d) ≡ some (made p a t)
+  made-of {a} {t} p c e =
+      segment-by h d (is-message h d c) ∙ given-true (partsOf p (oct a 0) .segment .seg) _ _ (parts-seg p (oct a 0) ∙ e)
+      ∙ rw (parts-told p (oct a 0), parts-params p (oct a 0), c .read .1)
+
+  by-pdu : {a t : List ℕ} {g : Segment Key} (p : Pdu) → Carries h d a p t → segmentAt (good h d) ≡ some g → CarriesSegment h d a g
+  unfolding partsOf
+  by-pdu {a} {t} (Request p) c q =
+      by-test (p .segment .seg) (λ e. let k = sym q ∙ made-of (Request p) c e in request p t c e (cc)) (λ e. not-seg (Request p) c e q)
+  by-pdu {a} {t} (ComplexAck p) c q =
+      by-test (p .segment .seg) (λ e. let k = sym q ∙ made-of (ComplexAck p) c e in complex-ack p t c e (cc)) (λ e. not-seg (ComplexAck p) c e q)
+  by-pdu (Unconfirmed p) c q = not-seg (Unconfirmed p) c refl q
+  by-pdu (SimpleAck p) c q = not-seg (SimpleAck p) c refl q
+  by-pdu (SegmentAck p) c q = not-seg (SegmentAck p) c refl q
+  by-pdu (Error p) c q = not-seg (Error p) c refl q
+  by-pdu (Reject p) c q = not-seg (Reject p) c refl q
+  by-pdu (Abort p) c q = not-seg (Abort p) c refl q
+
+  by-read : {a : List ℕ} {g : Segment Key} (y : Apdu.Answer) → readApdu a ≡ y → Behind h d false a → segmentAt (good h d) ≡ some g → CarriesSegment h d a g
+  by-read (Refused n) e k q = none-here (is-bad h d k e) refl q
+  by-read {a} (Good p) e k q = by-pdu {t = drop (paramsAt p) a} p (record { behind = k; read = (e, refl) }) q
+
+  by-header : {g : Segment Key} → FiveOrSix h → segmentAt (good h d) ≡ some g → CarriesSegment h d (drop (readNpdu d .next) d) g
+  by-header t q =
+      by-test (eqb (readNpdu d .refused) 0)
+      (λ e. let r = eqb-true (readNpdu d .refused) 0 e in
+      by-test (readNpdu d .head .message)
+      (λ m. none-here (is-network h d (behind h d true t r m)) refl q)
+      (λ m. by-read (readApdu (drop (readNpdu d .next) d)) refl (behind h d false t r m) q))
+      (λ e. none-here (is-refused h d t (eqb-false (readNpdu d .refused) 0 e)) refl q)
+
+  carried : {g : Segment Key} → segmentAt (good h d) ≡ some g → CarriesSegment h d (drop (readNpdu d .next) d) g
+  carried q = ⊎-elim (λ t. by-header t q) (λ n. none-here (is-other h d n) refl q) (five-or-six h d)
+
+  carried-is : {a : List ℕ} {g : Segment Key} → CarriesSegment h d a g → segmentAt (good h d) ≡ some g
+  unfolding partsOf
+  carried-is (request p t c e q) = made-of (Request p) c e ∙ ap some (sym q)
+  carried-is (complex-ack p t c e q) = made-of (ComplexAck p) c e ∙ ap some (sym q)
+
+pub segment-is : SegmentIs
+segment-is h d g = (λ q. (drop (readNpdu d .next) d, carried h d q), λ k. carried-is h d (k .1))
+
+-- ---- its report, by the answer
+module _ (h d a : List ℕ) (g : Segment Key) where
+  abbrev named : Told
+  named = record { first = oct a 0; invoke = g .key .invoke; choice = g .choice }
+
+  -- the content is an APDU that says what the segment says
+  pub record Says (m : Parts) : Type 0 where
+    pub content : contentOf (heardOf h) d ≡ message (routeOf (readNpdu d .head)) m a
+    pub names : m .apdu ≡ named
+
+  says : CarriesSegment h d a g → (m : Parts) × Says m
+  says (request p t c e q) =
+      (partsOf (Request p) (oct a 0), record { content = is-message h d c; names = parts-told (Request p) (oct a 0) ∙ ap (λ (g : Segment Key). record { first = oct a 0; invoke = g .key .invoke; choice = g .choice }) (sym q) })
+  says (complex-ack p t c e q) =
+      (partsOf (ComplexAck p) (oct a 0), record { content = is-message h d c; names = parts-told (ComplexAck p) (oct a 0) ∙ ap (λ (g : Segment Key). record { first = oct a 0; invoke = g .key .invoke; choice = g .choice }) (sym q) })
