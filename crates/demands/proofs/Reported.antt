@@ -1,5 +1,5 @@
 -- What is reported of every frame, by what stands in it.
-use Prim.Native.Nat.{ℕ, _-_, _≤_, _<_}
+use Prim.Native.Nat.{ℕ, _-_, _*_}
 use native.Mathlib.Omega.{arith}
 use mathlib.Core.Path.{_≡_, refl, sym, ap, _∙_}
 use mathlib.Core.Logic.{_↔_, _⊎_, inl, inr, ⊎-elim}
@@ -23,7 +23,10 @@ use Rattle.apdu.specs.declared.Pdu.the-variants.{Request, Unconfirmed, SimpleAc
 use Rattle.items.specs.Reading.{itemsOf, counted}
 use Rattle.items.specs.declared.Tally.{Tally}
 use Rattle.items.specs.declared.Tally.the-variants.{Items}
+use Rattle.frames.specs.Step.{feedOf}
+use Rattle.trunk.specs.Reading.{Out}
 use Rattle.trunk.specs.Reading.Out.{good, damage}
+use Rattle.trunk.specs.Demand.{outOf}
 use Rattle.messages.specs.Slots.{Segment, Slot, part, room, boxed}
 use Rattle.messages.specs.Rows.{Answer, rebuild}
 use Rattle.messages.specs.Rows.Answer.{refused, taken, completed}
@@ -37,10 +40,14 @@ use Rattle.reports.specs.declared.Apdu.{Apdu as Told}
 use Rattle.collector.specs.Heard.{Route, routeOf, heardOf, partsOf}
 use Rattle.collector.specs.Frame.{Content, contentOf, npduContent, apduContent, segmentIn, byTags, plainReport, answeredReport, segmentAt, plainAt, answeredAt, bacnet}
 use Rattle.collector.specs.Frame.Content.{other, refuses, network, refusesBehind, message}
+use Rattle.collector.specs.Calls.{slotsOf}
+use Rattle.collector.specs.declared.Collector.{Collector}
 use Rattle.collector.specs.declared.heard.Parts.{Parts}
 use Rattle.collector.proofs.Content.{content-5, content-6, content-other, npdu-refused, npdu-network, npdu-apdu, apdu-refused, apdu-good, tags-put, tags-turn}
+use Rattle.demands.specs.Words.{BySegment, ByOutcome}
 use Rattle.demands.specs.Reported.{ReportLaid, FiveOrSix, Behind, Carries, PlainReport, FrameReports, CarriesSegment, SegmentIs, SegmentReport, SegmentReported, Reported, GoodFrameReported, DamageReported, FeedReports, kind1, kind3, kind4, kind5, kind6, kind7, invokeIn, choiceIn, segIn}
 use Rattle.demands.specs.Reported.CarriesSegment.{request, complex-ack}
+use Rattle.demands.proofs.Changes.{feed-does}
 
 pub report-laid : ReportLaid
 unfolding reportOctets
@@ -256,17 +263,103 @@ pub segment-is : SegmentIs
 segment-is h d g = (λ q. (drop (readNpdu d .next) d, carried h d q), λ k. carried-is h d (k .1))
 
 -- ---- its report, by the answer
-module _ (h d a : List ℕ) (g : Segment Key) where
-  abbrev named : Told
-  named = record { first = oct a 0; invoke = g .key .invoke; choice = g .choice }
+abbrev named : List ℕ → Segment Key → Told
+named a g = record { first = oct a 0; invoke = g .key .invoke; choice = g .choice }
 
+module _ (h d a : List ℕ) (g : Segment Key) where
   -- the content is an APDU that says what the segment says
-  pub record Says (m : Parts) : Type 0 where
-    pub content : contentOf (heardOf h) d ≡ message (routeOf (readNpdu d .head)) m a
-    pub names : m .apdu ≡ named
+  record Says (m : Parts) : Type 0 where
+    content : contentOf (heardOf h) d ≡ message (routeOf (readNpdu d .head)) m a
+    names : m .apdu ≡ named a g
 
   says : CarriesSegment h d a g → (m : Parts) × Says m
   says (request p t c e q) =
-      (partsOf (Request p) (oct a 0), record { content = is-message h d c; names = parts-told (Request p) (oct a 0) ∙ ap (λ (g : Segment Key). record { first = oct a 0; invoke = g .key .invoke; choice = g .choice }) (sym q) })
+      (partsOf (Request p) (oct a 0), record { content = is-message h d c; names = parts-told (Request p) (oct a 0) ∙ ap (named a) (sym q) })
   says (complex-ack p t c e q) =
-      (partsOf (ComplexAck p) (oct a 0), record { content = is-message h d c; names = parts-told (ComplexAck p) (oct a 0) ∙ ap (λ (g : Segment Key). record { first = oct a 0; invoke = g .key .invoke; choice = g .choice }) (sym q) })
+      (partsOf (ComplexAck p) (oct a 0), record { content = is-message h d c; names = parts-told (ComplexAck p) (oct a 0) ∙ ap (named a) (sym q) })
+
+  module _ (area : List ℕ) {m : Parts} (k : Says m) where
+    refused-said : (x : ℕ) → answeredAt (good h d) (refused x) area ≡ kind6 h x
+    refused-said x = rw (k .content) (report-laid (refusal (heardOf h .frame) x))
+
+    held-said : (i n : ℕ) → answeredAt (good h d) (taken i n) area ≡ kind4 h (oct a 0) (g .key .invoke) (g .choice) i n
+    held-said i n = rw (k .content, k .names) (report-laid (segmentTaken (heardOf h .frame) (named a g) i n))
+
+    complete-said : (i n : ℕ) → answeredAt (good h d) (completed i n) area
+        ≡ reportOctets (byTags (itemsOf (part (room * i) n area)) (complete (heardOf h .frame) (named a g) i n))
+    complete-said i n = rw (k .content, k .names)
+
+    module _ (i n : ℕ) where
+      whole-said : {x : ℕ} → counted (itemsOf (part (room * i) n area)) ≡ Items x
+          → answeredAt (good h d) (completed i n) area ≡ kind5 h (oct a 0) (g .key .invoke) (g .choice) i n
+      whole-said e =
+          complete-said i n ∙ sym (tags-put (itemsOf (part (room * i) n area)) (complete (heardOf h .frame) (named a g) i n) refl e refl)
+          ∙ report-laid (complete (heardOf h .frame) (named a g) i n)
+
+      bad-said : {x : ℕ} → counted (itemsOf (part (room * i) n area)) ≡ Tally.Refused x → answeredAt (good h d) (completed i n) area ≡ kind6 h x
+      bad-said {x} e =
+          complete-said i n ∙ sym (tags-turn (itemsOf (part (room * i) n area)) (complete (heardOf h .frame) (named a g) i n) refl e refl refl)
+          ∙ report-laid (refusal (heardOf h .frame) x)
+
+      by-its-tags : {o : List ℕ} (y : Tally) → counted (itemsOf (part (room * i) n area)) ≡ y → answeredAt (good h d) (completed i n) area ≡ o
+          → SegmentReport h a g (completed i n) area o
+      by-its-tags (Items x) e q = SegmentReport.complete i n x refl e (sym q ∙ whole-said e)
+      by-its-tags (Tally.Refused x) e q = SegmentReport.bad-tags i n x refl e (sym q ∙ bad-said e)
+
+    answer-reported : {o : List ℕ} (w : Answer) → answeredAt (good h d) w area ≡ o → SegmentReport h a g w area o
+    answer-reported (refused x) q = SegmentReport.not-taken x refl (sym q ∙ refused-said x)
+    answer-reported (taken i n) q = SegmentReport.held i n refl (sym q ∙ held-said i n)
+    answer-reported (completed i n) q = by-its-tags i n (counted (itemsOf (part (room * i) n area))) refl q
+
+    at-answer : {w v : Answer} {o : List ℕ} → w ≡ v → answeredAt (good h d) v area ≡ o → answeredAt (good h d) w area ≡ o
+    at-answer e q = rw e q
+
+    answer-is : {o : List ℕ} {w : Answer} → SegmentReport h a g w area o → answeredAt (good h d) w area ≡ o
+    answer-is (SegmentReport.not-taken x e q) = at-answer e (refused-said x ∙ sym q)
+    answer-is (SegmentReport.held i n e q) = at-answer e (held-said i n ∙ sym q)
+    answer-is (SegmentReport.complete i n x e y q) = at-answer e (whole-said i n y ∙ sym q)
+    answer-is (SegmentReport.bad-tags i n x e y q) = at-answer e (bad-said i n y ∙ sym q)
+
+pub segment-reported : SegmentReported
+segment-reported h d a g c w area o = let k = says h d a g c .1 in (λ q. answer-reported h d a g area k w q, λ r. answer-is h d a g area k r)
+
+-- ---- every good frame, by the segment that it carries
+module _ (h d : List ℕ) (s : List (Slot Key)) (area : List ℕ) where
+  acted : {o : List ℕ} (y : Option (Segment Key)) → segmentAt (good h d) ≡ y → actOn keys bacnet y (good h d) s area .0 ≡ o → Reported h d s area o
+  acted {o} none e q = Reported.plain (frame-reports h d o .0 (e, q))
+  acted {o} (some g) e q =
+      let c = segment-is h d g .0 e in
+      let x = rebuild keys g (boxed s area) in
+      Reported.segment (c .0) g (c .1) (segment-reported h d (c .0) g (c .1) (x .answer) (x .box .area) o .0 q)
+
+  acting : {y : Option (Segment Key)} {o : List ℕ} → segmentAt (good h d) ≡ y → actOn keys bacnet y (good h d) s area .0 ≡ o → rules keys bacnet .act (good h d) s area .0 ≡ o
+  acting e q = rw e q
+
+  reported-is : {o : List ℕ} → Reported h d s area o → rules keys bacnet .act (good h d) s area .0 ≡ o
+  reported-is {o} (Reported.plain r) = let k = frame-reports h d o .1 r in acting (k .0) (k .1)
+  reported-is {o} (Reported.segment a g c r) =
+      let x = rebuild keys g (boxed s area) in acting (carried-is h d c) (segment-reported h d a g c (x .answer) (x .box .area) o .1 r)
+
+pub good-frame-reported : GoodFrameReported
+good-frame-reported h d s area o = (λ q. acted h d s area (segmentAt (good h d)) refl q, λ r. reported-is h d s area r)
+
+pub damage-reported : DamageReported
+damage-reported n s area = report-laid (damaged n)
+
+-- ---- the call that ends a frame: what it leaves in the report area is what the rules say
+module _ (c : Collector) (report area : List ℕ) (said : Bool) (report′ : List ℕ) (slots : List (Slot Key)) (area′ : List ℕ) where
+  by-segment : (o : Out) (y : Option (Segment Key)) → BySegment c area o y report′ slots area′ → report′ ≡ actOn keys bacnet y o (slotsOf c) area .0
+  by-segment o none k = k .0
+  by-segment o (some g) k = k .0
+
+  by-outcome : (x : Option Out) (o : Out) → x ≡ some o → ByOutcome c report area x said report′ slots area′ → report′ ≡ rules keys bacnet .act o (slotsOf c) area .0
+  by-outcome x o e k = let k : ByOutcome c report area (some o) said report′ slots area′ = rw e at k in by-segment o (segmentAt o) (k .2)
+
+pub feed-reports : FeedReports
+feed-reports c piece report area r report′ area′ h z =
+    let f = feedOf (c .receiver) piece in
+    let k = feed-does c piece report area r report′ area′ h z .rest in
+    let told = by-outcome c report area (r .reported) report′ (slotsOf (r .state)) area′ (outOf (f .outcome) (f .receiver)) in (
+      λ head d e o. let q = told (good head d) e k in let w = good-frame-reported head d (slotsOf c) area o in (λ p. w .0 (sym q ∙ p), λ p. q ∙ w .1 p),
+      λ n e. told (damage n) e k ∙ damage-reported n (slotsOf c) area,
+    )
