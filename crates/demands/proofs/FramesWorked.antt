@@ -8,7 +8,6 @@ use lib.Dec.{lit≤}
 use lib.ListN.{length}
 use Rattle.octets.specs.Splice.{splice, splice-length, splice-join, splice-inside}
 use Rattle.sums.specs.Sums.{headerMix, dataBits, dataBit}
-use Rattle.runs.specs.Run.{octs}
 use Rattle.frames.specs.Step.{lengthOf}
 use Rattle.trunk.specs.Reading.{readingOf, readFrom}
 use Rattle.trunk.specs.Demand.{reading}
@@ -19,21 +18,14 @@ use Rattle.tags.specs.Types.{least, most}
 use Rattle.tags.specs.Reading.{headAt, numberAt, lengthAt, twoAt, fourAt, firstRule, firstContent, contentsAt, wholeAt, signBad, signedAt, contextAt, applicationAt}
 use Rattle.items.specs.Reading as Items
 use Rattle.items.specs.Reading.{more, ending, closes, step, walk, itemsOf}
-use Rattle.items.proofs.Examples.{worked}
 use Rattle.messages.specs.Slots.{part}
 use Rattle.messages.specs.Rows.{rebuild, startsAt, nextNumber}
-use Rattle.messages.specs.Rows.Answer.{completed}
-use Rattle.rebuild.specs.View.{keys, sameKey}
-use Rattle.recordings.specs.Frames.{rules}
+use Rattle.rebuild.specs.View.{sameKey}
 use Rattle.reports.specs.Layout.{reportOctets}
 use Rattle.reports.specs.Kinds.{complete}
 use Rattle.collector.specs.Heard.{partsOf}
-use Rattle.collector.specs.Frame.{npduContent, contentOf, byTags, answeredAt, bacnet}
-use Rattle.collector.specs.Calls.{freshCollector, slotsOf}
-use Rattle.collector.specs.Offering.{End}
-use Rattle.collector.proofs.Reached.{fresh}
-use Rattle.collector.proofs.Examples as Examples
-use Rattle.demands.specs.ReportsWorked.{Case, WholeCase, AsWorked, workedCases, runOf, placed, ReportsWorked, LongReport, segmentFrame, SegmentReportsWorked}
+use Rattle.collector.specs.Frame.{npduContent, contentOf, byTags}
+use Rattle.demands.specs.ReportsWorked.{Case, placed}
 use Rattle.demands.specs.FramesWorked.{oneHeld, routedHeld, otherNumber, otherChoice, routedWhole, wholeBadTags, noneHeld, fourHeld, fiveHeld, threeHeld, noSlot, apduCases, ApdusWorked, segmentCases, SegmentFramesWorked, refusedCases, RefusalsWorked}
 use Rattle.demands.proofs.ReportsWorked.{reported, Computes, as-worked}
 

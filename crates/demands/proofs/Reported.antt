@@ -2,20 +2,19 @@
 use Prim.Native.Nat.{ℕ, _-_, _*_}
 use native.Mathlib.Omega.{arith}
 use mathlib.Core.Path.{_≡_, refl, sym, ap, _∙_}
-use mathlib.Core.Logic.{_↔_, _⊎_, inl, inr, ⊎-elim}
+use mathlib.Core.Logic.{_⊎_, inl, inr, ⊎-elim}
 use mathlib.Core.Bool.{Bool, true, false}
 use mathlib.Core.List.{List}
 use mathlib.Core.Option.{Option, none, some}
-use lib.Dec.{ltb, eqb}
+use lib.Dec.{eqb}
 use lib.ListN.{length, drop, length-drop}
-use borrow.Author.Tests.{eqb-true, eqb-false, ltb-true, ltb-false}
-use Rattle.octets.specs.Choice.{by-test, impossible, given, given-true, given-false}
+use borrow.Author.Tests.{eqb-true, eqb-false}
+use Rattle.octets.specs.Choice.{by-test, impossible, given-true, given-false}
 use Rattle.octets.specs.Reading.{oct}
 use Rattle.octets.specs.Numbers.{digits-four}
 use Rattle.npdu.specs.Reading.{readNpdu}
 use Rattle.apdu.specs.Reading.{readApdu}
 use Rattle.apdu.specs.Fields.{paramsAt}
-use Rattle.apdu.specs.Fields as Fields
 use Rattle.apdu.specs.declared.Answer as Apdu
 use Rattle.apdu.specs.declared.Answer.the-variants.{Good, Refused}
 use Rattle.apdu.specs.declared.Pdu.{Pdu}
@@ -37,17 +36,17 @@ use Rattle.reports.specs.Layout.{reportOctets}
 use Rattle.reports.specs.Kinds.{otherFrame, unsegmented, segmentTaken, complete, refusal, networkMessage, damaged}
 use Rattle.reports.specs.declared.Report.{Report}
 use Rattle.reports.specs.declared.Apdu.{Apdu as Told}
-use Rattle.collector.specs.Heard.{Route, routeOf, heardOf, partsOf}
-use Rattle.collector.specs.Frame.{Content, contentOf, npduContent, apduContent, segmentIn, byTags, plainReport, answeredReport, segmentAt, plainAt, answeredAt, bacnet}
+use Rattle.collector.specs.Heard.{routeOf, heardOf, partsOf}
+use Rattle.collector.specs.Frame.{Content, contentOf, npduContent, apduContent, segmentIn, byTags, plainReport, segmentAt, plainAt, answeredAt, bacnet}
 use Rattle.collector.specs.Frame.Content.{other, refuses, network, refusesBehind, message}
 use Rattle.collector.specs.Calls.{slotsOf}
 use Rattle.collector.specs.declared.Collector.{Collector}
 use Rattle.collector.specs.declared.heard.Parts.{Parts}
 use Rattle.collector.proofs.Content.{content-5, content-6, content-other, npdu-refused, npdu-network, npdu-apdu, apdu-refused, apdu-good, tags-put, tags-turn}
 use Rattle.demands.specs.Words.{BySegment, ByOutcome}
-use Rattle.demands.specs.Reported.{ReportLaid, FiveOrSix, Behind, Carries, PlainReport, FrameReports, CarriesSegment, SegmentIs, SegmentReport, SegmentReported, Reported, GoodFrameReported, DamageReported, FeedReports, kind1, kind3, kind4, kind5, kind6, kind7, invokeIn, choiceIn, segIn}
+use Rattle.demands.specs.Reported.{ReportLaid, FiveOrSix, Behind, Carries, PlainReport, FrameReports, CarriesSegment, SegmentIs, SegmentReport, SegmentReported, Reported, GoodFrameReported, DamageReported, FeedReports, SilenceReports, kind1, kind3, kind4, kind5, kind6, kind7, invokeIn, choiceIn, segIn}
 use Rattle.demands.specs.Reported.CarriesSegment.{request, complex-ack}
-use Rattle.demands.proofs.Changes.{feed-does}
+use Rattle.demands.proofs.Changes.{feed-does, silence-does}
 
 pub report-laid : ReportLaid
 unfolding reportOctets
@@ -363,3 +362,6 @@ feed-reports c piece report area r report′ area′ h z =
       λ head d e o. let q = told (good head d) e k in let w = good-frame-reported head d (slotsOf c) area o in (λ p. w .0 (sym q ∙ p), λ p. q ∙ w .1 p),
       λ n e. told (damage n) e k ∙ damage-reported n (slotsOf c) area,
     )
+
+pub silence-reports : SilenceReports
+silence-reports c report r report′ h z n e = let k = silence-does c report r report′ h z in (k .0 ∙ rw e, k .1 ∙ rw e (report-laid (damaged n)))

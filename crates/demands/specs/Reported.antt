@@ -21,7 +21,8 @@ use Rattle.apdu.specs.declared.Pdu.{Pdu}
 use Rattle.apdu.specs.declared.Pdu.the-variants.{Request, Unconfirmed, SimpleAck, ComplexAck, SegmentAck, Error, Reject, Abort}
 use Rattle.items.specs.Reading.{itemsOf, counted}
 use Rattle.items.specs.declared.Tally.{Tally}
-use Rattle.frames.specs.Step.{feedOf}
+use Rattle.frames.specs.Step.{feedOf, silenceOf}
+use Rattle.frames.specs.declared.Outcome.the-variants.{Damage}
 use Rattle.trunk.specs.Reading.Out.{good, damage}
 use Rattle.trunk.specs.Demand.{outOf}
 use Rattle.messages.specs.Slots.{Segment, Slot, boxed}
@@ -33,9 +34,10 @@ use Rattle.recordings.specs.Frames.{rules}
 use Rattle.reports.specs.Layout.{reportOctets}
 use Rattle.reports.specs.declared.Report.{Report}
 use Rattle.collector.specs.Frame.{segmentAt, plainAt, answeredAt, bacnet}
-use Rattle.collector.specs.Calls.{slotsOf, Feeds}
+use Rattle.collector.specs.Calls.{slotsOf, Feeds, Stills}
 use Rattle.collector.specs.declared.Collector.{Collector}
 use Rattle.collector.specs.declared.Fed.{Fed}
+use Rattle.collector.specs.declared.Fell.{Fell}
 
 -- ---- the 16 octets. "0: kind; 1: refusal number or 0; 2 to 4: frame type, destination, source; 5: first APDU octet; 6: invoke ID; 7: slot; 8 to 11: length,
 -- high octet first; 12: service choice. All else .. is 0." The octets 2 to 4 are the first three of a frame's head h
@@ -131,11 +133,16 @@ pub record Carries (h d a : List ℕ) (p : Pdu) (t : List ℕ) : Type 0 where
 
 -- ---- a good frame that carries no segment: its report o. "Tags good" and tag numbers are those of ItemsCount and ItemRows
 pub data PlainReport (h d o : List ℕ) : Type 0 where
+  -- 1: of another type
   other : (FiveOrSix h → ⊥) → o ≡ kind1 h (length d) → PlainReport h d o
+  -- 6 with the network header's number, 10 to 14
   npdu-refused : (x : ℕ) → FiveOrSix h → readNpdu d .refused ≡ x → (x ≡ 0 → ⊥) → o ≡ kind6 h x → PlainReport h d o
+  -- 7: a network layer message, by the octets behind its header, message type and vendor with it
   network : (rest : List ℕ) → Behind h d true rest → o ≡ kind7 h (length rest) → PlainReport h d o
+  -- 6 with the APDU header's number, 20 to 24; with the tag number of its parameters, 30 to 39
   apdu-refused : (a : List ℕ) (x : ℕ) → Behind h d false a → readApdu a ≡ Refused x → o ≡ kind6 h x → PlainReport h d o
   tags-refused : (a : List ℕ) (p : Pdu) (t : List ℕ) (x : ℕ) → Carries h d a p t → segIn p ≡ false → counted (itemsOf t) ≡ Tally.Refused x → o ≡ kind6 h x → PlainReport h d o
+  -- 3: the whole APDU's length; PDUs without parameters have no tags to judge
   apdu : (a : List ℕ) (p : Pdu) (t : List ℕ) (n : ℕ) → Carries h d a p t → segIn p ≡ false → counted (itemsOf t) ≡ Tally.Items n
       → o ≡ kind3 h (oct a 0) (invokeIn p) (choiceIn p) (length a) → PlainReport h d o
 
@@ -167,7 +174,9 @@ SegmentIs = (h d : List ℕ) (g : Segment Key) → (segmentAt (good h d) ≡ som
 
 -- ---- its report o, from the answer w of rebuilding and the message area behind it; SegmentRows says which answer. "Slot s owns message area octets 16384 s .."
 pub data SegmentReport (h a : List ℕ) (g : Segment Key) (w : Answer) (area o : List ℕ) : Type 0 where
+  -- 6 with 50 to 55
   not-taken : (x : ℕ) → w ≡ refused x → o ≡ kind6 h x → SegmentReport h a g w area o
+  -- 4 and 5: slot i, n octets; octet 5 is of the frame that caused the report
   held : (i n : ℕ) → w ≡ taken i n → o ≡ kind4 h (oct a 0) (g .key .invoke) (g .choice) i n → SegmentReport h a g w area o
   complete : (i n k : ℕ) → w ≡ completed i n → counted (itemsOf (take n (drop (16384 * i) area))) ≡ Tally.Items k
       → o ≡ kind5 h (oct a 0) (g .key .invoke) (g .choice) i n → SegmentReport h a g w area o
@@ -191,9 +200,14 @@ GoodFrameReported = (h d : List ℕ) (s : List (Slot Key)) (area o : List ℕ) �
 abbrev pub DamageReported : Type 0
 DamageReported = (n : ℕ) (s : List (Slot Key)) (area : List ℕ) → rules keys bacnet .act (damage n) s area .0 ≡ kind2 n
 
--- the same of the call that ends a frame, by its promise: o is what it leaves in the report area exactly when the page's words give o
+-- the same of the call that ends a frame, by its promise (hb_feed's by ExportedFeed): o is what it leaves in the report area exactly when the page's words give o
 abbrev pub FeedReports : Type 0
 FeedReports = (c : Collector) (piece report area : List ℕ) (r : Fed) (report′ area′ : List ℕ) → Feeds c report area piece r report′ area′ → r .refused ≡ 0
     → (let f = feedOf (c .receiver) piece in
     let x = outOf (f .outcome) (f .receiver) in
     ((h d : List ℕ) → x ≡ some (good h d) → (o : List ℕ) → (report′ ≡ o) ↔ Reported h d (slotsOf c) area o) × ((n : ℕ) → x ≡ some (damage n) → report′ ≡ kind2 n))
+
+-- and of a silence that ends in damage
+abbrev pub SilenceReports : Type 0
+SilenceReports = (c : Collector) (report : List ℕ) (r : Fell) (report′ : List ℕ) → Stills c report r report′ → r .refused ≡ 0 → (n : ℕ) → silenceOf (c .receiver) .outcome ≡ Damage n
+    → (r .reported ≡ true) × (report′ ≡ kind2 n)
