@@ -23,6 +23,8 @@ pub mod Exported
 pub mod OneExported
 pub mod ServicesBack
 pub mod ReportsWorked
+pub mod FramesWorked
+pub mod Reported
 pub mod RecordOctets
 pub mod ServiceRows
 pub mod WriterRows

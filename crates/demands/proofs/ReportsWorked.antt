@@ -2,6 +2,7 @@
 use Prim.Native.Nat.{ℕ}
 use mathlib.Core.Path.{_≡_, refl, ap, _∙_}
 use mathlib.Core.List.{List, [], _∷_}
+use lib.ListN.{length}
 use Rattle.octets.specs.Choice.{given}
 use Rattle.octets.specs.Numbers.{valueAt, digits}
 use Rattle.octets.specs.Splice.{splice}
@@ -31,7 +32,7 @@ use Rattle.collector.specs.Calls.{freshCollector, slotsOf}
 use Rattle.collector.specs.Offering.{End}
 use Rattle.collector.proofs.Reached.{fresh}
 use Rattle.collector.proofs.Examples as Examples
-use Rattle.demands.specs.ReportsWorked.{WholeCase, workedCases, runOf, placed, ReportsWorked, LongReport, segmentFrame, SegmentReportsWorked}
+use Rattle.demands.specs.ReportsWorked.{Case, WholeCase, AsWorked, workedCases, runOf, placed, ReportsWorked, LongReport, segmentFrame, SegmentReportsWorked}
 use Rattle.demands.proofs.Three.{read-by-position}
 
 pub whole-case : WholeCase
@@ -39,13 +40,22 @@ whole-case area z e o =
     ap (λ (e : End). e .reports) (read-by-position freshCollector area fresh z (octs (0x55 ∷ 0xFF ∷ 0x01 ∷ 0x02 ∷ 0x01 ∷ 0x00 ∷ 0x00 ∷ 0xF5 ∷ [])) e o)
     ∙ Examples.whole-case area
 
-computed : (area : List ℕ)
-    → reading (rules keys bacnet) (freshCollector .receiver) (slotsOf freshCollector) area (runOf workedCases) .reports ≡ placed 0 workedCases
+-- what the reading of a run on a fresh collector reports
+abbrev pub reported : List ℕ → List Case → List (ℕ × List ℕ)
+reported area cases = reading (rules keys bacnet) (freshCollector .receiver) (slotsOf freshCollector) area (runOf cases) .reports
+
+abbrev pub Computes : List Case → Type 0
+Computes cases = (area : List ℕ) → length area ≡ 65536 → reported area cases ≡ placed 0 cases
+
+pub as-worked : (cases : List Case) → Computes cases → AsWorked cases
+as-worked cases h area z e o = ap (λ (e : End). e .reports) (read-by-position freshCollector area fresh z (runOf cases) e o) ∙ h area z
+
+computed : Computes workedCases
 unfolding reading readFrom readingOf headerMix dataBits dataBit splice lengthOf contentOf npduContent given Npdu.readNpdu Npdu.afterVersion Npdu.afterDest Npdu.afterSource Npdu.afterTail Npdu.partIf Npdu.noPart Npdu.tailAt Npdu.vendorAt Npdu.joined Npdu.messageAt Npdu.ended Npdu.refusedBy Apdu.readApdu Apdu.readRequest Apdu.readUnconfirmed Apdu.readComplexAck Apdu.readSegmentAck Apdu.readReject Apdu.readTail tailEnd itemsOf walk step closes ending more headAt numberAt lengthAt twoAt fourAt firstRule firstContent contentsAt wholeAt signBad signedAt contextAt applicationAt least most rebuild startsAt nextNumber sameKey reportOctets partsOf valueAt digits
-computed area = refl
+computed area z = refl
 
 pub reports-worked : ReportsWorked
-reports-worked area z e o = ap (λ (e : End). e .reports) (read-by-position freshCollector area fresh z (runOf workedCases) e o) ∙ computed area
+reports-worked = as-worked workedCases computed
 
 pub long-report : LongReport
 unfolding contentOf reportOctets digits

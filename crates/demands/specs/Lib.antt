@@ -12,6 +12,8 @@ pub mod Completed
 pub mod Damage
 pub mod Exported
 pub mod ReportsWorked
+pub mod FramesWorked
+pub mod Reported
 pub mod RecordOctets
 pub mod ServiceRows
 pub mod WriterRows

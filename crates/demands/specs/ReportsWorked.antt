@@ -35,6 +35,10 @@ abbrev pub placed : ℕ → List Case → List (ℕ × List ℕ)
 placed p [] = []
 placed p (c ∷ cs) = (p + length (c .0) - 1, c .1) ∷ placed (p + length (c .0)) cs
 
+-- however it is offered to a fresh collector, the reports and their places are these
+abbrev pub AsWorked : List Case → Type 0
+AsWorked cases = (area : List ℕ) → length area ≡ 65536 → (e : End) → Called 0 freshCollector area (runOf cases) e → e .reports ≡ placed 0 cases
+
 -- 1 "frame of a type other than 5 and 6": type 14, three octets of data
 abbrev pub otherType : Case
 otherType = (
@@ -152,9 +156,8 @@ workedCases =
     ∷ unconfirmed ∷ reject ∷ segmentAck ∷ started ∷ heldMore ∷ otherVersion
     ∷ otherApdu ∷ leftOpen ∷ notOpen ∷ ofVendor ∷ ofNetwork ∷ []
 
--- however it is offered to a fresh collector, the reports and their places are these
 abbrev pub ReportsWorked : Type 0
-ReportsWorked = (area : List ℕ) → length area ≡ 65536 → (e : End) → Called 0 freshCollector area (runOf workedCases) e → e .reports ≡ placed 0 workedCases
+ReportsWorked = AsWorked workedCases
 
 -- "length, high octet first": 258 octets of data are 01 02
 abbrev pub LongReport : Type 0
