@@ -108,9 +108,9 @@ pub fn step_from(params: &[u8], at: usize) -> Step
     next(moved(new(params), at))
 }
 
-// The first step.
+// The first step of a new reader: so that the place where `new` begins is used too.
 pub fn first(params: &[u8]) -> Step
     ensures { λ r. ⌜ r ≡ stepOf (now (params .entry)) 0 ⌝ }
 {
-    step_from(params, 0)
+    next(new(params))
 }
