@@ -100,7 +100,7 @@ pub fn moved<'a>(r: Reader<'a>, at: usize) -> Reader<'a>
     }
 }
 
-// The step of a reader that was moved to a place: over plain parameters, so that its contract, and with it those of `moved` and
+// The step of a reader that was moved to a place: over plain parameters, so that its contract, and with it those of `new`, `moved` and
 // `next`, can be cited.
 pub fn step_from(params: &[u8], at: usize) -> Step
     ensures { λ r. ⌜ r ≡ stepOf (now (params .entry)) at ⌝ }
@@ -108,7 +108,7 @@ pub fn step_from(params: &[u8], at: usize) -> Step
     next(moved(new(params), at))
 }
 
-// The first step of a new reader: holds the place that `new` promises.
+// The first step of a new reader: so that the place where `new` begins is used too.
 pub fn first(params: &[u8]) -> Step
     ensures { λ r. ⌜ r ≡ stepOf (now (params .entry)) 0 ⌝ }
 {
