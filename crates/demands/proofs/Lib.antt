@@ -24,6 +24,9 @@ pub mod OneExported
 pub mod ServicesBack
 pub mod ReportsWorked
 pub mod FramesWorked
+pub mod FrameContent
+pub mod FrameReports
+pub mod SegmentReports
 pub mod Reported
 pub mod RecordOctets
 pub mod ServiceRows
