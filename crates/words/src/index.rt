@@ -37,8 +37,8 @@ fn group(letter: u8) -> usize
     octets::wide(letter % 32 * 4)
 }
 
-// The text between a bar and the next.
-fn behind(book: &[u8], bar: usize) -> &[u8] {
+// The text between a bar and the next: a template, by its number.
+pub fn behind(book: &[u8], bar: usize) -> &[u8] {
     if 1024 < bar {
         return &book[..0];
     }
