@@ -37,7 +37,7 @@ fn group(letter: u8) -> usize
     octets::wide(letter % 32 * 4)
 }
 
-// The text between a bar and the next: a template, by its number.
+// The text between a bar and the next.
 pub fn behind(book: &[u8], bar: usize) -> &[u8] {
     if 1024 < bar {
         return &book[..0];
