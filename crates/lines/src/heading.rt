@@ -2,80 +2,87 @@
 use crate::heard::Heard;
 use npdu::Npdu;
 use words::fill;
+use words::fill_five;
+use words::number;
+use words::one;
 use words::put;
 
 // The octets of a network address.
-fn address(len: u8, octets: [u8; 7], out: &mut [u8], at: usize) -> usize {
+fn address(book: &[u8], len: u8, octets: [u8; 7], out: &mut [u8], at: usize) -> usize {
     if len == 0 {
         return at;
     }
     let a = put(out, at, b" address ");
-    values::long::octets(show::part(&octets, 0, octets::wide(len)), out, a)
+    values::long::octets(book, show::part(&octets, 0, octets::wide(len)), out, a)
 }
 
 // A network and an address on it.
-fn route(network: u16, len: u8, octets: [u8; 7], out: &mut [u8], at: usize) -> usize {
+fn route(book: &[u8], network: u16, len: u8, octets: [u8; 7], out: &mut [u8], at: usize) -> usize {
     if network == 65535 {
         return put(out, at, b" (every network)");
     }
-    let a = fill(&[], b" (network #n", &[network as u64], out, at);
-    let b = address(len, octets, out, a);
-    put(out, b, b")")
+    let a = fill(book, b" (network #1", network as u64, 0, 0, out, at);
+    let b = address(book, len, octets, out, a);
+    one(41, out, b)
 }
 
 // The source's network address, where the header gives one.
-fn source(h: Npdu, out: &mut [u8], at: usize) -> usize {
+fn source(book: &[u8], h: Npdu, out: &mut [u8], at: usize) -> usize {
     if h.source {
         let adr = h.sadr;
-        return route(h.snet, h.slen, adr, out, at);
+        return route(book, h.snet, h.slen, adr, out, at);
     }
     at
 }
 
 // The destination's, likewise.
-fn destination(h: Npdu, out: &mut [u8], at: usize) -> usize {
+fn destination(book: &[u8], h: Npdu, out: &mut [u8], at: usize) -> usize {
     if h.dest {
         let adr = h.dadr;
-        return route(h.dnet, h.dlen, adr, out, at);
+        return route(book, h.dnet, h.dlen, adr, out, at);
     }
     at
 }
 
 // Source and destination, a network address behind each where the header gives one.
-pub fn routed(r: Heard, h: Npdu, out: &mut [u8], at: usize) -> usize {
-    let a = fill(&[], b", from #n", &[r.from as u64], out, at);
-    let b = source(h, out, a);
-    let c = fill(&[], b" to #s", &[r.to as u64], out, b);
-    destination(h, out, c)
+pub fn routed(book: &[u8], r: Heard, h: Npdu, out: &mut [u8], at: usize) -> usize {
+    let a = fill(book, b", from #2", 0, r.from as u64, 0, out, at);
+    let b = source(book, h, out, a);
+    let c = fill(book, b" to #s", 0, 0, r.to as u64, out, b);
+    destination(book, h, out, c)
 }
 
 // The same as cells of a table.
-pub fn stations(r: Heard, h: Npdu, out: &mut [u8], at: usize) -> usize {
-    let a = fill(&[], b"#n", &[r.from as u64], out, at);
-    let b = source(h, out, a);
-    let c = fill(&[], b",#s", &[r.to as u64], out, b);
-    destination(h, out, c)
+pub fn stations(book: &[u8], r: Heard, h: Npdu, out: &mut [u8], at: usize) -> usize {
+    let a = number(r.from as u64, out, at);
+    let b = source(book, h, out, a);
+    let c = fill(book, b",#s", 0, 0, r.to as u64, out, b);
+    destination(book, h, out, c)
 }
 
 // Kinds of PDU without a service; an abort says who aborts.
 fn bare(book: &[u8], first: u8, out: &mut [u8], at: usize) -> usize {
     if first / 16 == 7 && first % 2 == 1 {
-        return fill(book, b"#k", &[8], out, at);
+        return fill_five(book, b"#k", 0, 0, 0, 8, 0, out, at);
     }
-    fill(book, b"#k", &[(first / 16) as u64], out, at)
+    fill_five(book, b"#k", 0, 0, 0, (first / 16) as u64, 0, out, at)
 }
 
 // The kind of PDU, behind its service where it has one. Services that are not confirmed have numbers of their own.
 pub fn pdu(book: &[u8], first: u8, choice: u8, out: &mut [u8], at: usize) -> usize {
     match first / 16 {
-        1 => fill(book, b"#u", &[choice as u64], out, at),
+        1 => fill(book, b"#u", choice as u64, 0, 0, out, at),
         4 => bare(book, first, out, at),
         6 => bare(book, first, out, at),
         7 => bare(book, first, out, at),
-        _ => fill(
+        _ => fill_five(
             book,
             b"#q#k",
-            &[choice as u64, (first / 16) as u64],
+            choice as u64,
+            0,
+            0,
+            (first / 16) as u64,
+            0,
             out,
             at,
         ),
@@ -95,16 +102,14 @@ pub fn local(first: u8, data: &[u8]) -> bool {
 
 // What the report of such a message says.
 pub fn near(book: &[u8], r: Heard, out: &mut [u8], at: usize) -> usize {
-    fill(
+    fill_five(
         book,
-        b"#q#k, from #n to #s, invoke #n",
-        &[
-            r.choice as u64,
-            (r.first / 16) as u64,
-            r.from as u64,
-            r.to as u64,
-            r.invoke as u64,
-        ],
+        b"#q#k, from #2 to #s, invoke #5",
+        r.choice as u64,
+        r.from as u64,
+        r.to as u64,
+        (r.first / 16) as u64,
+        r.invoke as u64,
         out,
         at,
     )
@@ -113,9 +118,9 @@ pub fn near(book: &[u8], r: Heard, out: &mut [u8], at: usize) -> usize {
 // What every report of an APDU says.
 pub fn message(book: &[u8], r: Heard, h: Npdu, out: &mut [u8], at: usize) -> usize {
     let a = pdu(book, r.first, r.choice, out, at);
-    let b = routed(r, h, out, a);
+    let b = routed(book, r, h, out, a);
     if r.first / 16 == 1 {
         return b;
     }
-    fill(&[], b", invoke #n", &[r.invoke as u64], out, b)
+    fill(book, b", invoke #1", r.invoke as u64, 0, 0, out, b)
 }

@@ -15,37 +15,30 @@ use words::put;
 fn frame(book: &[u8], r: Heard, out: &mut [u8], at: usize) -> usize {
     let a = fill(
         book,
-        b"#f, from #n to #s",
-        &[r.frame as u64, r.from as u64, r.to as u64],
+        b"#f, from #2 to #s",
+        r.frame as u64,
+        r.from as u64,
+        r.to as u64,
         out,
         at,
     );
     if r.length == 0 {
         return a;
     }
-    fill(book, b", #n data octets", &[r.length as u64], out, a)
+    fill(book, b", #1 data octets", r.length as u64, 0, 0, out, a)
 }
 
 fn damage(book: &[u8], r: Heard, out: &mut [u8], at: usize) -> usize {
-    fill(
-        book,
-        b"damage, #n: #d",
-        &[r.number as u64, r.number as u64],
-        out,
-        at,
-    )
+    fill(book, b"damage, #1: #d", r.number as u64, 0, 0, out, at)
 }
 
 fn refused(book: &[u8], r: Heard, out: &mut [u8], at: usize) -> usize {
     fill(
         book,
-        b"refused, #n: #r, from #n to #s",
-        &[
-            r.number as u64,
-            std::num::wrapping_sub_u64(r.number as u64, 10),
-            r.from as u64,
-            r.to as u64,
-        ],
+        b"refused, #1: #r, from #2 to #s",
+        r.number as u64,
+        r.from as u64,
+        r.to as u64,
         out,
         at,
     )
@@ -55,9 +48,17 @@ fn refused(book: &[u8], r: Heard, out: &mut [u8], at: usize) -> usize {
 fn network(book: &[u8], r: Heard, data: &[u8], out: &mut [u8], at: usize) -> usize {
     let n = npdu::read(data);
     let h = n.head;
-    let a = fill(book, b"network layer message #l", &[h.kind as u64], out, at);
-    let b = heading::routed(r, h, out, a);
-    fill(book, b", #n octets", &[r.length as u64], out, b)
+    let a = fill(
+        book,
+        b"network layer message #l",
+        h.kind as u64,
+        0,
+        0,
+        out,
+        at,
+    );
+    let b = heading::routed(book, r, h, out, a);
+    fill(book, b", #1 octets", r.length as u64, 0, 0, out, b)
 }
 
 // A report in words.
@@ -117,7 +118,7 @@ fn told(
     if token(r) {
         return passed(heard, r, out, at);
     }
-    let a = fill(book, b"octet #n: ", &[heard], out, at);
+    let a = fill(book, b"octet #1: ", heard, 0, 0, out, at);
     said(book, r, data, area, out, a)
 }
 

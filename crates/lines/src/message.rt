@@ -8,22 +8,24 @@ use words::fill;
 use words::put;
 
 // A segment ack: the segment's number, the window, whether it is negative, and who acknowledges.
-fn segment_ack(p: SegmentAckPdu, out: &mut [u8], at: usize) -> usize {
+fn segment_ack(book: &[u8], p: SegmentAckPdu, out: &mut [u8], at: usize) -> usize {
     let a = fill(
-        &[],
-        b": segment #n, window #n",
-        &[p.number as u64, p.window as u64],
+        book,
+        b": segment #1, window #2",
+        p.number as u64,
+        p.window as u64,
+        0,
         out,
         at,
     );
-    let b = negative(p.nak, out, a);
+    let b = negative(book, p.nak, out, a);
     if p.srv {
         return put(out, b, b", by the server");
     }
     put(out, b, b", by the client")
 }
 
-fn negative(nak: bool, out: &mut [u8], at: usize) -> usize {
+fn negative(book: &[u8], nak: bool, out: &mut [u8], at: usize) -> usize {
     if nak {
         return put(out, at, b", negative");
     }
@@ -33,9 +35,9 @@ fn negative(nak: bool, out: &mut [u8], at: usize) -> usize {
 // What a PDU without parameters says.
 fn bare(book: &[u8], p: Pdu, out: &mut [u8], at: usize) -> usize {
     match p {
-        Pdu::SegmentAck(q) => segment_ack(q, out, at),
-        Pdu::Reject(q) => fill(book, b": #j", &[q.reason as u64], out, at),
-        Pdu::Abort(q) => fill(book, b": #a", &[q.reason as u64], out, at),
+        Pdu::SegmentAck(q) => segment_ack(book, q, out, at),
+        Pdu::Reject(q) => fill(book, b": #j", q.reason as u64, 0, 0, out, at),
+        Pdu::Abort(q) => fill(book, b": #a", q.reason as u64, 0, 0, out, at),
         Pdu::Request(_) => at,
         Pdu::Unconfirmed(_) => at,
         Pdu::SimpleAck(_) => at,
@@ -99,9 +101,11 @@ pub fn segment(book: &[u8], r: Heard, data: &[u8], out: &mut [u8], at: usize) ->
     let h = n.head;
     let b = heading::message(book, r, h, out, a);
     fill(
-        &[],
-        b", slot #n, #n octets held",
-        &[r.slot as u64, r.length as u64],
+        book,
+        b", slot #1, #2 octets held",
+        r.slot as u64,
+        r.length as u64,
+        0,
         out,
         b,
     )
@@ -125,6 +129,6 @@ pub fn complete(
     let n = npdu::read(data);
     let h = n.head;
     let b = heading::message(book, r, h, out, a);
-    let c = fill(&[], b", slot #n", &[r.slot as u64], out, b);
+    let c = fill(book, b", slot #1", r.slot as u64, 0, 0, out, b);
     params(book, r, rebuilt(r, area), out, c)
 }

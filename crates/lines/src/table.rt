@@ -6,6 +6,7 @@ use crate::message;
 use npdu::Npdu;
 use values::table::Told;
 use words::fill;
+use words::one;
 use words::put;
 
 // The table's first line.
@@ -19,11 +20,11 @@ pub fn head(out: &mut [u8], at: usize) -> usize {
 
 // The cells in front of the object type.
 fn front(book: &[u8], place: u64, r: Heard, h: Npdu, out: &mut [u8]) -> usize {
-    let a = fill(book, b"#n,", &[place], out, 0);
-    let b = heading::stations(r, h, out, a);
-    let c = put(out, b, b",");
+    let a = fill(book, b"#1,", place, 0, 0, out, 0);
+    let b = heading::stations(book, r, h, out, a);
+    let c = one(44, out, b);
     let d = heading::pdu(book, r.first, r.choice, out, c);
-    put(out, d, b",")
+    one(44, out, d)
 }
 
 fn none(at: usize) -> Told {

@@ -170,7 +170,7 @@ fn end(
     let mut report = [0u8; 16];
     let f = ear::silence(e, &mut report, counts);
     let g = last(book, f, w, &report, store, area, out);
-    closing::line(g, w.csv, counts, out);
+    closing::line(book, g, w.csv, counts, out);
 }
 
 fn last(

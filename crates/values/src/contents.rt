@@ -1,6 +1,7 @@
 // The contents of an application item as text, by its type.
 use crate::long;
 use words::fill;
+use words::fill_five;
 use words::number;
 use words::put;
 
@@ -23,13 +24,21 @@ fn full(n: usize) -> u64 {
 }
 
 // Two's complement.
-fn signed(c: &[u8], out: &mut [u8], at: usize) -> usize {
+fn signed(book: &[u8], c: &[u8], out: &mut [u8], at: usize) -> usize {
     let v = whole(c);
     let f = full(c.len());
     if v < f / 2 {
         return number(v, out, at);
     }
-    fill(&[], b"-#n", &[std::num::wrapping_sub_u64(f, v)], out, at)
+    fill(
+        book,
+        b"-#1",
+        std::num::wrapping_sub_u64(f, v),
+        0,
+        0,
+        out,
+        at,
+    )
 }
 
 fn real(c: &[u8], out: &mut [u8], at: usize) -> usize {
@@ -50,7 +59,7 @@ fn double(c: &[u8], out: &mut [u8], at: usize) -> usize {
     put(out, at, show::part(&text, 0, n))
 }
 
-// A part of a date or a time, as the mark #c has it: 255 is any.
+// A part of a date or a time, as a mark has it: 255 is any.
 fn any(x: u8) -> u64 {
     if x == 255 {
         return 60003;
@@ -97,10 +106,14 @@ fn date(book: &[u8], c: &[u8], out: &mut [u8], at: usize) -> usize {
     if c.len() != 4 {
         return at;
     }
-    fill(
+    fill_five(
         book,
-        b"#c-#c-#c#c",
-        &[year(c[0]), month(c[1]), day(c[2]), weekday(c[3])],
+        b"#A-#B-#C#D",
+        year(c[0]),
+        month(c[1]),
+        day(c[2]),
+        weekday(c[3]),
+        0,
         out,
         at,
     )
@@ -111,10 +124,14 @@ fn time(book: &[u8], c: &[u8], out: &mut [u8], at: usize) -> usize {
     if c.len() != 4 {
         return at;
     }
-    fill(
+    fill_five(
         book,
-        b"#c:#c:#c.#c",
-        &[any(c[0]), any(c[1]), any(c[2]), any(c[3])],
+        b"#A:#B:#C.#D",
+        any(c[0]),
+        any(c[1]),
+        any(c[2]),
+        any(c[3]),
+        0,
         out,
         at,
     )
@@ -123,15 +140,15 @@ fn time(book: &[u8], c: &[u8], out: &mut [u8], at: usize) -> usize {
 // An object's type by name, and its instance.
 fn object(book: &[u8], c: &[u8], out: &mut [u8], at: usize) -> usize {
     let v = whole(c);
-    fill(book, b"#o #n", &[v / 4194304, v % 4194304], out, at)
+    fill(book, b"#o #2", v / 4194304, v % 4194304, 0, out, at)
 }
 
 // Numbers, and a boolean, which is in its tag.
 fn short(book: &[u8], number: u8, value: u8, c: &[u8], out: &mut [u8], at: usize) -> usize {
     match number {
         0 => put(out, at, b"null"),
-        1 => fill(book, b"#b", &[value as u64], out, at),
-        3 => signed(c, out, at),
+        1 => fill(book, b"#b", value as u64, 0, 0, out, at),
+        3 => signed(book, c, out, at),
         4 => real(c, out, at),
         5 => double(c, out, at),
         _ => words::number(whole(c), out, at),
@@ -149,9 +166,9 @@ pub fn text(
     at: usize,
 ) -> usize {
     match number {
-        6 => long::octets(c, out, at),
-        7 => long::characters(c, table, out, at),
-        8 => long::bits(c, out, at),
+        6 => long::octets(book, c, out, at),
+        7 => long::characters(book, c, table, out, at),
+        8 => long::bits(book, c, out, at),
         10 => date(book, c, out, at),
         11 => time(book, c, out, at),
         12 => object(book, c, out, at),

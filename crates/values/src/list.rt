@@ -5,6 +5,7 @@ use crate::item::item_at;
 use crate::long;
 use crate::span;
 use words::fill;
+use words::one;
 use words::put;
 use words::room;
 
@@ -16,39 +17,39 @@ struct So {
 }
 
 // An item: an application item's contents and its type; a context item's number and its octets; the borders of a group.
-fn one(book: &[u8], s: &[u8], r: Item, out: &mut [u8], at: usize) -> usize {
+fn said(book: &[u8], s: &[u8], r: Item, out: &mut [u8], at: usize) -> usize {
     let c = span(s, r.place, r.len);
     if r.kind == 0 {
         let a = contents::text(book, r.number, r.value, c, false, out, at);
-        return fill(book, b" (#t)", &[r.number as u64], out, a);
+        return fill(book, b" (#t)", r.number as u64, 0, 0, out, a);
     }
     if r.kind == 1 {
-        let a = fill(book, b"[#n] ", &[r.number as u64], out, at);
-        return long::octets(c, out, a);
+        let a = fill(book, b"[#1] ", r.number as u64, 0, 0, out, at);
+        return long::octets(book, c, out, a);
     }
     if r.kind == 2 {
-        return fill(book, b"[#n] {", &[r.number as u64], out, at);
+        return fill(book, b"[#1] {", r.number as u64, 0, 0, out, at);
     }
     put(out, at, b"}")
 }
 
 // What stands in front of an item: nothing in front of the first.
-fn between(next: usize, tight: bool, out: &mut [u8], at: usize) -> usize {
+fn between(book: &[u8], next: usize, tight: bool, out: &mut [u8], at: usize) -> usize {
     if next == 0 {
         return at;
     }
     if tight {
-        return put(out, at, b" ");
+        return one(32, out, at);
     }
     put(out, at, b", ")
 }
 
 // A list that is too long for the area: how many octets behind this tag are left.
-fn cut(s: &[u8], place: usize, out: &mut [u8], at: usize) -> So {
-    let a = put(out, at, b" ");
+fn cut(book: &[u8], s: &[u8], place: usize, out: &mut [u8], at: usize) -> So {
+    let a = one(32, out, at);
     So {
         next: s.len(),
-        at: long::left(std::num::wrapping_sub_usize(s.len(), place), out, a),
+        at: long::left(book, std::num::wrapping_sub_usize(s.len(), place), out, a),
         opened: false,
     }
 }
@@ -57,12 +58,12 @@ fn cut(s: &[u8], place: usize, out: &mut [u8], at: usize) -> So {
 fn step(book: &[u8], s: &[u8], w: So, out: &mut [u8]) -> So {
     let r = item_at(s, w.next);
     if room(out, w.at) < 192 {
-        return cut(s, r.place, out, w.at);
+        return cut(book, s, r.place, out, w.at);
     }
-    let a = between(w.next, w.opened || r.kind == 3, out, w.at);
+    let a = between(book, w.next, w.opened || r.kind == 3, out, w.at);
     So {
         next: r.next,
-        at: one(book, s, r, out, a),
+        at: said(book, s, r, out, a),
         opened: r.kind == 2,
     }
 }

@@ -6,17 +6,17 @@ use words::room;
 use words::two;
 
 // What is said of contents that were cut.
-pub fn left(n: usize, out: &mut [u8], at: usize) -> usize {
-    fill(&[], b".. #n octets left", &[n as u64], out, at)
+pub fn left(book: &[u8], n: usize, out: &mut [u8], at: usize) -> usize {
+    fill(book, b".. #1 octets left", n as u64, 0, 0, out, at)
 }
 
 // Octets as hexadecimal digits.
-pub fn octets(c: &[u8], out: &mut [u8], at: usize) -> usize {
+pub fn octets(book: &[u8], c: &[u8], out: &mut [u8], at: usize) -> usize {
     let mut to = at;
     let mut i = 0;
     while i < c.len() {
         if room(out, to) < 96 {
-            return left(c.len() - i, out, to);
+            return left(book, c.len() - i, out, to);
         }
         to = two(c[i], out, to);
         i += 1;
@@ -40,7 +40,7 @@ fn guard(x: u8, table: bool) -> u8 {
 }
 
 // A character of a quoted text: controls as \xNN.
-fn character(x: u8, table: bool, out: &mut [u8], at: usize) -> usize {
+fn character(book: &[u8], x: u8, table: bool, out: &mut [u8], at: usize) -> usize {
     if x < 32 || x == 127 {
         let a = put(out, at, b"\\x");
         return two(x, out, a);
@@ -49,39 +49,40 @@ fn character(x: u8, table: bool, out: &mut [u8], at: usize) -> usize {
     if g == 0 {
         return one(x, out, at);
     }
-    put(out, at, &[g, x])
+    let a = one(g, out, at);
+    one(x, out, a)
 }
 
 // Characters of one octet each in quotes: ASCII and UTF-8 as they stand.
-fn plain(c: &[u8], table: bool, out: &mut [u8], at: usize) -> usize {
+fn plain(book: &[u8], c: &[u8], table: bool, out: &mut [u8], at: usize) -> usize {
     let mut to = one(34, out, at);
     let mut i = 1;
     while i < c.len() {
         if room(out, to) < 96 {
             let a = put(out, to, b"\" ");
-            return left(c.len() - i, out, a);
+            return left(book, c.len() - i, out, a);
         }
-        to = character(c[i], table, out, to);
+        to = character(book, c[i], table, out, to);
         i += 1;
     }
     one(34, out, to)
 }
 
 // The number of a set of characters.
-fn set(x: u8, out: &mut [u8], at: usize) -> usize {
-    fill(&[], b"set #n: ", &[x as u64], out, at)
+fn set(book: &[u8], x: u8, out: &mut [u8], at: usize) -> usize {
+    fill(book, b"set #1: ", x as u64, 0, 0, out, at)
 }
 
 // A text: set 0 in quotes, another set as its number and octets.
-pub fn characters(c: &[u8], table: bool, out: &mut [u8], at: usize) -> usize {
+pub fn characters(book: &[u8], c: &[u8], table: bool, out: &mut [u8], at: usize) -> usize {
     if c.len() == 0 {
         return at;
     }
     if c[0] == 0 {
-        return plain(c, table, out, at);
+        return plain(book, c, table, out, at);
     }
-    let a = set(c[0], out, at);
-    octets(&c[1..], out, a)
+    let a = set(book, c[0], out, at);
+    octets(book, &c[1..], out, a)
 }
 
 // The first n bits of an octet, as digits.
@@ -109,12 +110,12 @@ fn bits_at(c: &[u8], i: usize, out: &mut [u8], at: usize) -> usize {
 }
 
 // Bits, the first first.
-pub fn bits(c: &[u8], out: &mut [u8], at: usize) -> usize {
+pub fn bits(book: &[u8], c: &[u8], out: &mut [u8], at: usize) -> usize {
     let mut to = at;
     let mut i = 1;
     while i < c.len() {
         if room(out, to) < 96 {
-            return left(c.len() - i, out, to);
+            return left(book, c.len() - i, out, to);
         }
         to = bits_at(c, i, out, to);
         i += 1;

@@ -11,19 +11,22 @@ use services::Target;
 use services::WhoIs;
 use services::WriteRequest;
 use words::fill;
+use words::fill_five;
 use words::put;
 
 // An object, its property and, where there is one, the index in brackets.
 fn target(book: &[u8], t: Target, out: &mut [u8], at: usize) -> usize {
     let a = fill(
         book,
-        b"#o #n #p",
-        &[t.object as u64, t.instance as u64, t.property as u64],
+        b"#o #2 #p",
+        t.object as u64,
+        t.instance as u64,
+        t.property as u64,
         out,
         at,
     );
     if t.indexed {
-        return fill(book, b"[#n]", &[t.index as u64], out, a);
+        return fill(book, b"[#1]", t.index as u64, 0, 0, out, a);
     }
     a
 }
@@ -47,17 +50,19 @@ fn write(book: &[u8], r: WriteRequest, s: &[u8], out: &mut [u8], at: usize) -> u
     let a = target(book, t, out, at);
     let b = value(book, s, v, out, a);
     if r.ranked {
-        return fill(book, b", priority #n", &[r.priority as u64], out, b);
+        return fill(book, b", priority #1", r.priority as u64, 0, 0, out, b);
     }
     b
 }
 
-fn who_is(w: WhoIs, out: &mut [u8], at: usize) -> usize {
+fn who_is(book: &[u8], w: WhoIs, out: &mut [u8], at: usize) -> usize {
     if w.limited {
         return fill(
-            &[],
-            b"devices #n to #n",
-            &[w.low as u64, w.high as u64],
+            book,
+            b"devices #1 to #2",
+            w.low as u64,
+            w.high as u64,
+            0,
             out,
             at,
         );
@@ -66,15 +71,14 @@ fn who_is(w: WhoIs, out: &mut [u8], at: usize) -> usize {
 }
 
 fn i_am(book: &[u8], m: IAm, out: &mut [u8], at: usize) -> usize {
-    fill(
+    fill_five(
         book,
-        b"device #n, vendor #n, APDUs to #n octets, #g",
-        &[
-            m.instance as u64,
-            m.vendor as u64,
-            m.longest as u64,
-            m.segmentation as u64,
-        ],
+        b"device #1, vendor #2, APDUs to #3 octets, #g",
+        m.instance as u64,
+        m.vendor as u64,
+        m.longest as u64,
+        m.segmentation as u64,
+        0,
         out,
         at,
     )
@@ -84,27 +88,23 @@ fn fault(book: &[u8], f: Fault, out: &mut [u8], at: usize) -> usize {
     fill(
         book,
         b"class #e, code #y",
-        &[f.class as u64, f.code as u64],
+        f.class as u64,
+        f.code as u64,
+        0,
         out,
         at,
     )
 }
 
 // Parameters of a service that is not read here.
-fn other(s: &[u8], out: &mut [u8], at: usize) -> usize {
-    fill(&[], b"#n parameter octets", &[s.len() as u64], out, at)
+fn other(book: &[u8], s: &[u8], out: &mut [u8], at: usize) -> usize {
+    fill(book, b"#1 parameter octets", s.len() as u64, 0, 0, out, at)
 }
 
 // Parameters against their service's layout.
 fn refused(book: &[u8], x: u8, s: &[u8], out: &mut [u8], at: usize) -> usize {
-    let a = other(s, out, at);
-    fill(
-        book,
-        b", #n: #r",
-        &[x as u64, std::num::wrapping_sub_u64(x as u64, 10)],
-        out,
-        a,
-    )
+    let a = other(book, s, out, at);
+    fill(book, b", #1: #r", x as u64, 0, 0, out, a)
 }
 
 fn said(book: &[u8], v: Service, s: &[u8], out: &mut [u8], at: usize) -> usize {
@@ -112,7 +112,7 @@ fn said(book: &[u8], v: Service, s: &[u8], out: &mut [u8], at: usize) -> usize {
         Service::ReadProperty(t) => target(book, t, out, at),
         Service::ReadPropertyAck(r) => ack(book, r, s, out, at),
         Service::WriteProperty(r) => write(book, r, s, out, at),
-        Service::WhoIs(w) => who_is(w, out, at),
+        Service::WhoIs(w) => who_is(book, w, out, at),
         Service::IAm(m) => i_am(book, m, out, at),
         Service::Error(f) => fault(book, f, out, at),
     }
@@ -132,7 +132,7 @@ fn known(kind: u8, choice: u8) -> bool {
 // The parameters, their tags good, of a PDU of this kind (0 confirmed request, 1 unconfirmed, 3 complex ack, 5 error) and choice.
 pub fn text(book: &[u8], kind: u8, choice: u8, s: &[u8], out: &mut [u8], at: usize) -> usize {
     if !known(kind, choice) {
-        return other(s, out, at);
+        return other(book, s, out, at);
     }
     let r = services::read(kind, choice, s);
     match r {

@@ -26,13 +26,15 @@ const ROOM: usize = 57344;
 fn target(book: &[u8], t: Target, out: &mut [u8], at: usize) -> usize {
     let a = fill(
         book,
-        b"#O,#n,#P,",
-        &[t.object as u64, t.instance as u64, t.property as u64],
+        b"#O,#2,#P,",
+        t.object as u64,
+        t.instance as u64,
+        t.property as u64,
         out,
         at,
     );
     if t.indexed {
-        return fill(book, b"#n,", &[t.index as u64], out, a);
+        return fill(book, b"#1,", t.index as u64, 0, 0, out, a);
     }
     one(44, out, a)
 }
@@ -41,17 +43,17 @@ fn target(book: &[u8], t: Target, out: &mut [u8], at: usize) -> usize {
 fn cells(book: &[u8], s: &[u8], r: Item, out: &mut [u8], at: usize) -> usize {
     let c = span(s, r.place, r.len);
     if r.kind == 0 {
-        let a = fill(book, b"#T,", &[r.number as u64], out, at);
+        let a = fill(book, b"#T,", r.number as u64, 0, 0, out, at);
         return contents::text(book, r.number, r.value, c, true, out, a);
     }
     if r.kind == 1 {
-        let a = fill(book, b"context #n,", &[r.number as u64], out, at);
-        return long::octets(c, out, a);
+        let a = fill(book, b"context #1,", r.number as u64, 0, 0, out, at);
+        return long::octets(book, c, out, a);
     }
     if r.kind == 2 {
-        return fill(book, b"group #n,", &[r.number as u64], out, at);
+        return fill(book, b"group #1,", r.number as u64, 0, 0, out, at);
     }
-    fill(book, b"end of group #n,", &[r.number as u64], out, at)
+    fill(book, b"end of group #1,", r.number as u64, 0, 0, out, at)
 }
 
 fn ended(at: usize, next: usize, more: bool) -> Told {
@@ -95,7 +97,8 @@ fn value(
     let cells = span(front, 0, end);
     if s.len() == 0 {
         let a = put(out, at, cells);
-        return ended(put(out, a, b",\n"), 0, false);
+        let b = one(44, out, a);
+        return ended(one(10, out, b), 0, false);
     }
     every(book, s, from, cells, out, at)
 }

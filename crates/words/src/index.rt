@@ -38,7 +38,7 @@ fn group(letter: u8) -> usize
 }
 
 // The text between a bar and the next.
-fn behind(book: &[u8], bar: usize) -> &[u8] {
+pub fn behind(book: &[u8], bar: usize) -> &[u8] {
     if 1024 < bar {
         return &book[..0];
     }

@@ -4,10 +4,9 @@ mod index;
 mod names;
 mod template;
 
-pub use index::name;
-pub use names::SIZE;
 pub use names::book;
 pub use template::fill;
+pub use template::fill_five;
 ghost use Prim.Native.Nat.{_+_, _≤_};
 ghost use lib.ListN.{length};
 

@@ -2,7 +2,7 @@
 // Document 01's words stand for types, damage and refusals; the other names are the standard's (clauses 6.2.4, 18 and 21). No name between two bars: the number has none.
 //   f  frame types
 //   d  damage numbers
-//   r  refusal numbers, from 10
+//   r  refusal numbers
 //   q  confirmed services
 //   u  unconfirmed services
 //   l  network layer messages
@@ -16,10 +16,7 @@
 //   t  application types
 //   g  how a device takes segments
 //   b  booleans
-//   c  words in dates and times
-
-// The octets of a book.
-pub const SIZE: usize = 9216;
+//   c  words in dates and times, from 60000 on
 
 // A book with all names laid.
 pub fn book() -> [u8; 9216] {
@@ -28,7 +25,7 @@ pub fn book() -> [u8; 9216] {
         b"\
 f|frame of type |token|poll for master|reply to poll for master|test request|test response|||reply postponed
 d|||header check wrong|length above 501|data check wrong|silence within a frame
-r||network header ends early|network header of another version|network header with a reserved bit|address length out of range|network number out of range||||||APDU header ends early|unknown APDU type|APDU header with a reserved bit|size code or window out of range|octets after the APDU's end||||||item ends early|tag number out of range|tag not in its shortest form|contents of a wrong length|contents break their type's rule|closing tag without its opening|group without its closing tag|more than 16 groups open|more than 2,048 items|more than 16,384 parameter octets|parameter missing or of another kind|parameter too long or out of range|item after the last parameter|service not read here|||||||no slot free|segment of a message that did not begin|segment out of order|segment with another service|message above 16,384 octets|message of more than 256 segments
+r||||||||||||network header ends early|network header of another version|network header with a reserved bit|address length out of range|network number out of range||||||APDU header ends early|unknown APDU type|APDU header with a reserved bit|size code or window out of range|octets after the APDU's end||||||item ends early|tag number out of range|tag not in its shortest form|contents of a wrong length|contents break their type's rule|closing tag without its opening|group without its closing tag|more than 16 groups open|more than 2,048 items|more than 16,384 parameter octets|parameter missing or of another kind|parameter too long or out of range|item after the last parameter|service not read here|||||||no slot free|segment of a message that did not begin|segment out of order|segment with another service|message above 16,384 octets|message of more than 256 segments
 q|service |AcknowledgeAlarm|ConfirmedCOVNotification|ConfirmedEventNotification|GetAlarmSummary|GetEnrollmentSummary|SubscribeCOV|AtomicReadFile|AtomicWriteFile|AddListElement|RemoveListElement|CreateObject|DeleteObject|ReadProperty|ReadPropertyConditional|ReadPropertyMultiple|WriteProperty|WritePropertyMultiple|DeviceCommunicationControl|ConfirmedPrivateTransfer|ConfirmedTextMessage|ReinitializeDevice|VT-Open|VT-Close|VT-Data|Authenticate|RequestKey|ReadRange|LifeSafetyOperation|SubscribeCOVProperty|GetEventInformation
 u|service |I-Am|I-Have|UnconfirmedCOVNotification|UnconfirmedEventNotification|UnconfirmedPrivateTransfer|UnconfirmedTextMessage|TimeSynchronization|Who-Has|Who-Is|UTCTimeSynchronization
 l||Who-Is-Router-To-Network|I-Am-Router-To-Network|I-Could-Be-Router-To-Network|Reject-Message-To-Network|Router-Busy-To-Network|Router-Available-To-Network|Initialize-Routing-Table|Initialize-Routing-Table-Ack|Establish-Connection-To-Network|Disconnect-Connection-To-Network

@@ -1,7 +1,8 @@
-// Lines from templates: text with marks, each for the next of the numbers that are given.
-//   #n  the number in decimal          #s  a station: 255 is all of them
-//   #c  a part of a date or a time     #x  another small letter: its name in the group of that letter, else the group's own
-//   #X  a capital: its name in that group, else the number alone       word for a number without a name, and the number
+// Lines from templates: text, with numbers in the places of its marks. A mark is # and one octet:
+//   1 to 5    that number in decimal           s   the third as a station: 255 is all of them
+//   A to D    the first to the fourth as a part of a date or a time
+//   x         another small letter: the name in its group, else the group's own word and the number
+//   X         another capital: the same name, else the number alone
 use crate::index;
 use crate::number;
 use crate::one;
@@ -49,46 +50,71 @@ fn named(book: &[u8], letter: u8, n: u64, out: &mut [u8], at: usize) -> usize {
     put(out, at, w)
 }
 
-// What a mark's letter asks for.
+// How a mark's letter has its number written.
 fn mark(book: &[u8], letter: u8, n: u64, out: &mut [u8], at: usize) -> usize {
-    if letter == b'n' {
+    if letter < b'A' {
         return number(n, out, at);
     }
     if letter == b's' {
         return station(n, out, at);
     }
-    if letter == b'c' {
+    if letter <= b'D' {
         return clock(book, n, out, at);
     }
-    if letter < 97 {
+    if letter < b'a' {
         return bare(book, letter, n, out, at);
     }
     named(book, letter, n, out, at)
 }
 
-// The k-th number.
-fn given(numbers: &[u64], k: usize) -> u64 {
-    if k < numbers.len() {
-        return numbers[k];
+// Which of the numbers a mark's letter means.
+fn meant(letter: u8, a: u64, b: u64, c: u64, d: u64, e: u64) -> u64 {
+    match letter {
+        b'2' | b'B' | b'y' => b,
+        b'3' | b'C' | b's' | b'p' | b'P' => c,
+        b'4' | b'D' | b'k' | b'g' => d,
+        b'5' => e,
+        _ => a,
     }
-    0
 }
 
-// A template with the numbers in the places of its marks.
-pub fn fill(book: &[u8], template: &[u8], numbers: &[u64], out: &mut [u8], at: usize) -> usize {
+// A template with five numbers.
+pub fn fill_five(
+    book: &[u8],
+    template: &[u8],
+    a: u64,
+    b: u64,
+    c: u64,
+    d: u64,
+    e: u64,
+    out: &mut [u8],
+    at: usize,
+) -> usize {
     let mut to = at;
-    let mut k = 0;
     let mut i = 0;
     while i < template.len() {
-        let b = template[i];
+        let x = template[i];
         i += 1;
-        if b == b'#' && i < template.len() {
-            to = mark(book, template[i], given(numbers, k), out, to);
-            k = std::num::wrapping_add_usize(k, 1);
+        if x == b'#' && i < template.len() {
+            let n = meant(template[i], a, b, c, d, e);
+            to = mark(book, template[i], n, out, to);
             i += 1;
         } else {
-            to = one(b, out, to);
+            to = one(x, out, to);
         }
     }
     to
+}
+
+// A template with three numbers; what it has no mark for is 0.
+pub fn fill(
+    book: &[u8],
+    template: &[u8],
+    a: u64,
+    b: u64,
+    c: u64,
+    out: &mut [u8],
+    at: usize,
+) -> usize {
+    fill_five(book, template, a, b, c, 0, 0, out, at)
 }

@@ -6,10 +6,10 @@ use Rattle.values.proofs.long.plain.Statement.{statement}
 use Rattle.values.proofs.long.plain.Tie as tie
 
 abbrev Inv-loop : tie.InvT-loop
-Inv-loop c table out₀ at to₀ i₀ t8 out to i = length out ≡ length out₀
+Inv-loop book c table out₀ at to₀ i₀ t8 out to i = length out ≡ length out₀
 
 abbrev μ-loop : tie.MeasureT-loop
-μ-loop c table out₀ at to₀ i₀ t8 out to i = length c - i
+μ-loop book c table out₀ at to₀ i₀ t8 out to i = length c - i
 
 one-requires : tie.Need-one-requires Inv-loop μ-loop
 one-requires c κs = search needs

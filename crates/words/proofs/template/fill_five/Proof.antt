@@ -2,35 +2,35 @@ use borrow.Author.Needs.{needs}
 use lib.ListN.{length}
 use mathlib.Core.Path.{_≡_}
 use Prim.Native.Nat.{_-_}
-use Rattle.words.proofs.template.fill.Statement.{statement}
-use Rattle.words.proofs.template.fill.Tie as tie
+use Rattle.words.proofs.template.fill_five.Statement.{statement}
+use Rattle.words.proofs.template.fill_five.Tie as tie
 
 abbrev Inv-loop : tie.InvT-loop
-Inv-loop book template numbers out₀ at to₀ k₀ i₀ out to k i = length out ≡ length out₀
+Inv-loop book template a b c d e out₀ at to₀ i₀ out to i = length out ≡ length out₀
 
 abbrev μ-loop : tie.MeasureT-loop
-μ-loop book template numbers out₀ at to₀ k₀ i₀ out to k i = length template - i
+μ-loop book template a b c d e out₀ at to₀ i₀ out to i = length template - i
 
 loop-holds : tie.Need-loop-holds Inv-loop μ-loop
 loop-holds c = search needs
 
-shared-slice-read-b : tie.Need-shared-slice-read-b Inv-loop μ-loop
-shared-slice-read-b c = search needs
+shared-slice-read-x : tie.Need-shared-slice-read-x Inv-loop μ-loop
+shared-slice-read-x c = search needs
 
 add-i : tie.Need-add-i Inv-loop μ-loop
 add-i c = search needs
 
+shared-slice-read-meant : tie.Need-shared-slice-read-meant Inv-loop μ-loop
+shared-slice-read-meant c = search needs
+
+meant-requires : tie.Need-meant-requires Inv-loop μ-loop
+meant-requires c κs = search needs
+
 shared-slice-read-mark : tie.Need-shared-slice-read-mark Inv-loop μ-loop
 shared-slice-read-mark c = search needs
 
-given-requires : tie.Need-given-requires Inv-loop μ-loop
-given-requires c κs = search needs
-
 mark-requires : tie.Need-mark-requires Inv-loop μ-loop
 mark-requires c κs = search needs
-
-wrapping-add-usize-requires : tie.Need-wrapping-add-usize-requires Inv-loop μ-loop
-wrapping-add-usize-requires c κs = search needs
 
 add-i-2 : tie.Need-add-i-2 Inv-loop μ-loop
 add-i-2 c = search needs
@@ -56,19 +56,19 @@ same-length c = search needs
 returns : tie.Need-returns Inv-loop μ-loop
 returns c = search needs
 
-pub fill-spec : {M : Type 1} → statement M
-fill-spec =
+pub fill-five-spec : {M : Type 1} → statement M
+fill-five-spec =
     tie.close
     (tie.spec
     Inv-loop
     μ-loop
     loop-holds
-    shared-slice-read-b
+    shared-slice-read-x
     add-i
+    shared-slice-read-meant
+    meant-requires
     shared-slice-read-mark
-    given-requires
     mark-requires
-    wrapping-add-usize-requires
     add-i-2
     loop-less
     loop-again
