@@ -2,6 +2,7 @@
 use crate::limbs;
 ghost use Prim.Native.Nat.{_≤_, _<_};
 ghost use Rattle.decimals.specs.Division.{Divided};
+ghost use Rattle.decimals.specs.Narrow.{Exceeds};
 
 // Whether t + plus reaches s: the number rounded up to the next power of ten still reads back. An even number owns its bounds.
 pub fn reaches(mut t: [u32; 40], plus: &[u32; 40], s: &[u32; 40], n: usize, even: bool) -> bool
@@ -21,7 +22,9 @@ pub fn short(mut t: [u32; 40], plus: &[u32; 40], s: &[u32; 40], n: usize, even: 
 }
 
 // Larger, or equal where equal will do.
-fn exceeds(order: u8, even: bool) -> bool {
+pub fn exceeds(order: u8, even: bool) -> bool
+    ensures { λ r. ⌜ Exceeds order r ⌝ }
+{
     if even { 0 < order } else { 1 < order }
 }
 
@@ -66,7 +69,7 @@ fn nearer(d: u8, order: u8) -> u8
 }
 
 // The last digit: the one of the two that reads back, or the nearer where both do.
-fn last(d: u8, low: bool, high: bool, order: u8) -> u8
+pub fn last(d: u8, low: bool, high: bool, order: u8) -> u8
     requires { ⌜ d ≤ 9 ⌝ }
     ensures { λ r. ⌜ r ≤ 9 ⌝ }
 {
@@ -88,7 +91,7 @@ fn half(mut t: [u32; 40], s: &[u32; 40], n: usize) -> u8
 }
 
 // Writes a digit.
-fn keep(out: &mut [u8; 20], at: usize, d: u8)
+pub fn keep(out: &mut [u8; 20], at: usize, d: u8)
     requires { ⌜ (at < 20) × (d ≤ 9) ⌝ }
 {
     out[at] = d;

@@ -1,6 +1,7 @@
 // Reals and doubles as decimal text: the shortest decimal that reads back as the same number.
 mod digits;
 mod limbs;
+mod narrow;
 mod scaling;
 mod text;
 
@@ -30,10 +31,18 @@ fn ratio(
     text::text(&figures, count, point, out, at)
 }
 
-// A number m times two to (up - down), one of them 0, in n limbs; bound: m is the least of its exponent, so that the neighbour below is nearer.
+// A number m times two to (up - down) in n limbs; nearest: half the way to the neighbour below, as a power of two.
 // All in quarters of the last bit: r is four times the number, and the neighbours are half a bit away.
-fn finite(m: u64, up: usize, down: usize, bound: bool, n: usize, out: &mut [u8], at: usize) -> usize
-    requires { ⌜ (up ≤ 1100) × (down ≤ 1100) × (n ≤ 40) × Room (now out) at ⌝ }
+fn wide(
+    m: u64,
+    up: usize,
+    down: usize,
+    nearest: usize,
+    n: usize,
+    out: &mut [u8],
+    at: usize,
+) -> usize
+    requires { ⌜ (up ≤ 1100) × (down ≤ 1100) × (nearest ≤ up + 1) × (n ≤ 40) × Room (now out) at ⌝ }
     ensures { λ r. ⌜ r ≤ 40 ⌝ }
 {
     let mut r = [0u32; 40];
@@ -43,7 +52,7 @@ fn finite(m: u64, up: usize, down: usize, bound: bool, n: usize, out: &mut [u8],
     limbs::place(&mut r, n, m, up + 2);
     limbs::place(&mut s, n, 1, down + 2);
     limbs::place(&mut plus, n, 1, up + 1);
-    limbs::place(&mut minus, n, 1, nearest(bound, up));
+    limbs::place(&mut minus, n, 1, nearest);
     ratio(
         &mut r,
         &mut s,
@@ -59,9 +68,21 @@ fn finite(m: u64, up: usize, down: usize, bound: bool, n: usize, out: &mut [u8],
 // Half the way to the neighbour below, as a power of two: a quarter where that neighbour stands half as far.
 fn nearest(bound: bool, up: usize) -> usize
     requires { ⌜ up ≤ 1100 ⌝ }
-    ensures { λ r. ⌜ r ≤ 1101 ⌝ }
+    ensures { λ r. ⌜ r ≤ up + 1 ⌝ }
 {
     if bound { up } else { up + 1 }
+}
+
+// A number m times two to (up - down), one of them 0; bound: m is the least of its exponent, so that the neighbour below is nearer. In n limbs where 64 bits are too few.
+fn finite(m: u64, up: usize, down: usize, bound: bool, n: usize, out: &mut [u8], at: usize) -> usize
+    requires { ⌜ (up ≤ 1100) × (down ≤ 1100) × (n ≤ 40) × Room (now out) at ⌝ }
+    ensures { λ r. ⌜ r ≤ 40 ⌝ }
+{
+    let below = nearest(bound, up);
+    if narrow::fits(m, up, down) {
+        return narrow::finite(m, up, down, below, out, at);
+    }
+    wide(m, up, down, below, n, out, at)
 }
 
 // How far x is above y; 0 where it is not.
