@@ -1,5 +1,6 @@
 // The shortest digits of a number (Steele and White; Dragon4): r / s is the number, and plus / s and minus / s half the way to its neighbours.
 use crate::limbs;
+use crate::text;
 ghost use Prim.Native.Nat.{_≤_, _<_};
 ghost use Rattle.decimals.specs.Division.{Divided};
 ghost use Rattle.decimals.specs.Narrow.{Exceeds};
@@ -90,11 +91,11 @@ fn half(mut t: [u32; 40], s: &[u32; 40], n: usize) -> u8
     limbs::compare(&t, s, n)
 }
 
-// Writes a digit.
+// Writes a digit's octet.
 pub fn keep(out: &mut [u8; 20], at: usize, d: u8)
     requires { ⌜ (at < 20) × (d ≤ 9) ⌝ }
 {
-    out[at] = d;
+    out[at] = text::figure(d);
 }
 
 // Digits until one ends the shortest decimal: at most twenty are kept, where seventeen serve every double.

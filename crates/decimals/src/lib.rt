@@ -26,7 +26,7 @@ fn ratio(
 {
     let above = scaling::down_to_one(r, s, plus, n, even);
     let point = scaling::up_to_tenth(r, s, plus, minus, n, even, above);
-    let mut figures = [0u8; 20];
+    let mut figures = [b'0'; 20];
     let count = digits::digits(r, s, plus, minus, n, even, &mut figures);
     text::text(&figures, count, point, out, at)
 }

@@ -85,7 +85,7 @@ fn grow(near: u64, s: u64, even: bool) -> Whole
     Whole { s: t, point: point }
 }
 
-// Digits until one ends the shortest decimal; zeros in front are digits here.
+// Digits until one ends the shortest decimal; zeros in front are digits here. Most stand clear of both bounds.
 fn figures(number: u64, s: u64, above: u64, below: u64, even: bool, out: &mut [u8; 20]) -> usize
     requires { ⌜ Ready number s above below ⌝ }
     ensures { λ k. ⌜ k ≤ 20 ⌝ }
@@ -99,8 +99,14 @@ fn figures(number: u64, s: u64, above: u64, below: u64, even: bool, out: &mut [u
         r = part.rest;
         plus *= 10;
         minus *= 10;
+        let near = r + plus;
+        if minus < r && near < s {
+            digits::keep(out, k, part.digit);
+            k += 1;
+            continue;
+        }
         let low = reaches(minus, r, even);
-        let high = reaches(r + plus, s, even);
+        let high = reaches(near, s, even);
         if low || high {
             let e = digits::last(part.digit, low, high, compare(r * 2, s));
             digits::keep(out, k, e);
@@ -122,7 +128,7 @@ pub fn finite(m: u64, up: usize, down: usize, nearest: usize, out: &mut [u8], at
     let minus = power(nearest);
     let even = m % 2 == 0;
     let whole = grow(r + plus, power(down + 2), even);
-    let mut kept = [0u8; 20];
+    let mut kept = [b'0'; 20];
     let count = figures(r, whole.s, plus, minus, even, &mut kept);
     text::text(&kept, count, whole.point, out, at)
 }

@@ -16,17 +16,15 @@ pub fn push(out: &mut [u8], at: usize, b: u8) -> usize
 }
 
 // A digit's octet.
-fn figure(d: u8) -> u8
+pub fn figure(d: u8) -> u8
     requires { ⌜ d ≤ 9 ⌝ }
 {
     48 + d
 }
 
-// The digit at a place; past the last one a zero.
-fn shown(digits: &[u8; 20], i: usize) -> u8
-    ensures { λ r. ⌜ r ≤ 9 ⌝ }
-{
-    if i < 20 { digits[i] % 10 } else { 0 }
+// The digit's octet at a place; past the last one a zero.
+fn shown(digits: &[u8; 20], i: usize) -> u8 {
+    if i < 20 { digits[i] } else { b'0' }
 }
 
 // The digits from one place to another.
@@ -37,7 +35,7 @@ fn run(digits: &[u8; 20], from: usize, to: usize, out: &mut [u8], at: usize) -> 
     let mut w = at;
     let mut i = from;
     while i < to {
-        w = push(out, w, figure(shown(digits, i)));
+        w = push(out, w, shown(digits, i));
         i += 1;
     }
     w

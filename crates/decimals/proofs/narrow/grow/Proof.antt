@@ -9,45 +9,16 @@ Inv-loop near s even t₀ point₀ t point = (0 < t) × (t ≤ 11529215046068469
 abbrev μ-loop : tie.MeasureT-loop
 μ-loop near s even t₀ point₀ t point = near + 1 - t
 
-loop-holds : tie.Need-loop-holds Inv-loop μ-loop
-loop-holds c = search needs
-
-reaches-requires : tie.Need-reaches-requires Inv-loop μ-loop
-reaches-requires c κs = search needs
-
-mul-t : tie.Need-mul-t Inv-loop μ-loop
-mul-t c =
-    let h = c .before .reaches .ensures .yes (c .if1 .taken) in
-    search needs
-
-add-point : tie.Need-add-point Inv-loop μ-loop
-add-point c = search needs
-
-loop-less : tie.Need-loop-less Inv-loop μ-loop
-loop-less c =
-    let h = c .before .reaches .ensures .yes (c .if1 .taken) in
-    search needs
-
-loop-again : tie.Need-loop-again Inv-loop μ-loop
-loop-again c =
-    let h = c .before .reaches .ensures .yes (c .if1 .taken) in
-    search needs
-
-returns : tie.Need-returns Inv-loop μ-loop
-returns c =
-    let h = c .before .reaches .ensures .no (c .if1 .left) in
-    search needs
-
 pub grow-spec : {M : Type 1} → statement M
 grow-spec =
     tie.close
     (tie.spec
     Inv-loop
     μ-loop
-    loop-holds
-    reaches-requires
-    mul-t
-    add-point
-    loop-less
-    loop-again
-    returns)
+    (λ c. search needs)
+    (λ c κs. search needs)
+    (λ c. let h = c .before .reaches .ensures .yes (c .if1 .taken) in search needs)
+    (λ c. search needs)
+    (λ c. let h = c .before .reaches .ensures .yes (c .if1 .taken) in search needs)
+    (λ c. let h = c .before .reaches .ensures .yes (c .if1 .taken) in search needs)
+    (λ c. let h = c .before .reaches .ensures .no (c .if1 .left) in search needs))

@@ -17,9 +17,6 @@ loop-holds c = search needs
 shown-requires : tie.Need-shown-requires Inv-loop μ-loop
 shown-requires c κs = search needs
 
-figure-requires : tie.Need-figure-requires Inv-loop μ-loop
-figure-requires c κs = search needs
-
 push-requires : tie.Need-push-requires Inv-loop μ-loop
 push-requires c κs = search needs
 
@@ -46,7 +43,6 @@ run-spec =
     μ-loop
     loop-holds
     shown-requires
-    figure-requires
     push-requires
     add-i
     loop-less
