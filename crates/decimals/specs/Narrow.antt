@@ -44,6 +44,12 @@ pub record Fits (m up down : ℕ) : Type 0 where
   pub below : down ≤ 58
   pub number : m * 2 ^ (up + 2) ≤ 72057594037927936
 
+-- a whole of at most 2^60 that has room to grow by tens until it is as large as the number
+pub record Growing (near s : ℕ) : Type 0 where
+  pub ten : 10 * near ≤ 1152921504606846976
+  pub some : 0 < s
+  pub most : s ≤ 1152921504606846976
+
 -- the whole has grown enough, and ten times it still has room
 pub record Grown (near s : ℕ) : Type 0 where
   pub enough : near ≤ s

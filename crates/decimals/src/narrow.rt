@@ -5,7 +5,7 @@ ghost use mathlib.Core.Path.{_≡_};
 ghost use mathlib.Core.Bool.{true};
 ghost use Prim.Native.Nat.{_+_, _*_, _≤_, _<_};
 ghost use Rattle.decimals.specs.Room.{Room};
-ghost use Rattle.decimals.specs.Narrow.{Ordered, Reaches, Quotient, Power, Fits, Grown, Ready};
+ghost use Rattle.decimals.specs.Narrow.{Ordered, Reaches, Quotient, Power, Fits, Growing, Grown, Ready};
 
 // What a number is held against, and where the point stands then.
 struct Whole {
@@ -73,7 +73,7 @@ pub fn fits(m: u64, up: usize, down: usize) -> bool
 
 // The whole grows by tens until the number, with half the way to the next, is below it.
 fn grow(near: u64, s: u64, even: bool) -> Whole
-    requires { ⌜ (near ≤ 100000000000000000) × (0 < s) × (s ≤ 1152921504606846976) ⌝ }
+    requires { ⌜ Growing near s ⌝ }
     ensures { λ w. ⌜ Grown near (w .s) ⌝ }
 {
     let mut t = s;
