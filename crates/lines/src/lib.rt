@@ -1,5 +1,5 @@
 // A report as a line in words, and as rows of a table. The frame's octets are those of the frame store, the parameters of a message that was
-// rebuilt those of the message area: both as the call that reported left them.
+// rebuilt those of the message area: both as the call that reported left them. `records` is an area for the records of a value's items.
 mod heading;
 mod heard;
 mod message;
@@ -62,14 +62,22 @@ fn network(book: &[u8], r: Heard, data: &[u8], out: &mut [u8], at: usize) -> usi
 }
 
 // A report in words.
-fn said(book: &[u8], r: Heard, data: &[u8], area: &[u8], out: &mut [u8], at: usize) -> usize {
+fn said(
+    book: &[u8],
+    r: Heard,
+    data: &[u8],
+    area: &[u8],
+    records: &mut [u8],
+    out: &mut [u8],
+    at: usize,
+) -> usize {
     let kind = r.kind;
     match kind {
         1 => frame(book, r, out, at),
         2 => damage(book, r, out, at),
-        3 => message::whole(book, r, data, out, at),
+        3 => message::whole(book, r, data, records, out, at),
         4 => message::segment(book, r, data, out, at),
-        5 => message::complete(book, r, data, area, out, at),
+        5 => message::complete(book, r, data, area, records, out, at),
         6 => refused(book, r, out, at),
         _ => network(book, r, data, out, at),
     }
@@ -112,6 +120,7 @@ fn told(
     r: Heard,
     data: &[u8],
     area: &[u8],
+    records: &mut [u8],
     out: &mut [u8],
     at: usize,
 ) -> usize {
@@ -119,7 +128,7 @@ fn told(
         return passed(heard, r, out, at);
     }
     let a = fill(book, b"octet #1: ", heard, 0, 0, out, at);
-    said(book, r, data, area, out, a)
+    said(book, r, data, area, records, out, a)
 }
 
 // The line of a report: the octets heard so far, the report in words and, where wanted, its octets.
@@ -129,10 +138,11 @@ pub fn line(
     report: &[u8; 16],
     data: &[u8],
     area: &[u8],
+    records: &mut [u8],
     wanted: bool,
     out: &mut [u8],
     at: usize,
 ) -> usize {
-    let a = told(book, heard, heard::of(report), data, area, out, at);
+    let a = told(book, heard, heard::of(report), data, area, records, out, at);
     end(report, wanted, out, a)
 }

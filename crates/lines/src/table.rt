@@ -60,12 +60,13 @@ pub fn rows(
     data: &[u8],
     area: &[u8],
     from: usize,
+    records: &mut [u8],
     out: &mut [u8],
     at: usize,
 ) -> Told {
     let r = heard::of(report);
     if carries(r) {
-        return carried(book, place, r, data, area, from, out, at);
+        return carried(book, place, r, data, area, from, records, out, at);
     }
     none(at)
 }
@@ -77,6 +78,7 @@ fn carried(
     data: &[u8],
     area: &[u8],
     from: usize,
+    records: &mut [u8],
     out: &mut [u8],
     at: usize,
 ) -> Told {
@@ -94,6 +96,7 @@ fn carried(
             from,
             &mut cells,
             used,
+            records,
             out,
             at,
         );
@@ -106,6 +109,7 @@ fn carried(
         from,
         &mut cells,
         used,
+        records,
         out,
         at,
     )
