@@ -24,7 +24,10 @@ fn tell(
     at: usize,
 ) -> Gathered {
     if w.csv {
-        return rows(book, heard, report, store, area, records, out, at);
+        if lines::table::carries(report) {
+            return rows(book, heard, report, store, area, records, out, at);
+        }
+        return output::so_far(at);
     }
     let a = lines::line(book, heard, report, store, area, records, w.octets, out, at);
     output::when_full(a, out)

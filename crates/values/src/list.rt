@@ -5,6 +5,7 @@ use crate::item::item_of;
 use crate::long;
 use crate::span;
 use words::fill;
+use words::named;
 use words::one;
 use words::put;
 use words::room;
@@ -14,7 +15,9 @@ fn said(book: &[u8], s: &[u8], r: Item, out: &mut [u8], at: usize) -> usize {
     let c = span(s, r.place, r.len);
     if r.kind == 0 {
         let a = contents::text(book, r.number, r.value, c, false, out, at);
-        return fill(book, b" (#t)", r.number as u64, 0, 0, out, a);
+        let b = put(out, a, b" (");
+        let d = named(book, b't', r.number as u64, out, b);
+        return one(41, out, d);
     }
     if r.kind == 1 {
         let a = fill(book, b"[#1] ", r.number as u64, 0, 0, out, at);

@@ -13,23 +13,26 @@ use services::Target;
 use services::WhoIs;
 use words::fill;
 use words::fill_five;
+use words::named;
+use words::number;
+use words::one;
 use words::put;
 
 // An object, its property and, where there is one, the index in brackets.
 fn target(book: &[u8], t: Target, out: &mut [u8], at: usize) -> usize {
-    let a = fill(
-        book,
-        b"#o #2 #p",
-        t.object as u64,
-        t.instance as u64,
-        t.property as u64,
-        out,
-        at,
-    );
+    let a = named(book, b'o', t.object as u64, out, at);
+    let b = one(32, out, a);
+    let c = number(t.instance as u64, out, b);
+    let d = one(32, out, c);
+    let e = named(book, b'p', t.property as u64, out, d);
+    index(book, t, out, e)
+}
+
+fn index(book: &[u8], t: Target, out: &mut [u8], at: usize) -> usize {
     if t.indexed {
-        return fill(book, b"[#1]", t.index as u64, 0, 0, out, a);
+        return fill(book, b"[#1]", t.index as u64, 0, 0, out, at);
     }
-    a
+    at
 }
 
 // A value's items, from the records that `items::list` writes of them.
