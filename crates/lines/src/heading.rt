@@ -3,9 +3,11 @@ use crate::heard::Heard;
 use npdu::Npdu;
 use words::fill;
 use words::fill_five;
+use words::named;
 use words::number;
 use words::one;
 use words::put;
+use words::station;
 
 // The octets of a network address.
 fn address(book: &[u8], len: u8, octets: [u8; 7], out: &mut [u8], at: usize) -> usize {
@@ -44,6 +46,13 @@ fn destination(book: &[u8], h: Npdu, out: &mut [u8], at: usize) -> usize {
     at
 }
 
+// From whom to whom a frame goes.
+pub fn stations(from: u8, to: u8, out: &mut [u8], at: usize) -> usize {
+    let a = number(from as u64, out, at);
+    let b = put(out, a, b" to ");
+    station(to as u64, out, b)
+}
+
 // Source and destination, a network address behind each where the header gives one.
 pub fn routed(book: &[u8], r: Heard, h: Npdu, out: &mut [u8], at: usize) -> usize {
     let a = fill(book, b", from #2", 0, r.from as u64, 0, out, at);
@@ -53,11 +62,12 @@ pub fn routed(book: &[u8], r: Heard, h: Npdu, out: &mut [u8], at: usize) -> usiz
 }
 
 // The same as cells of a table.
-pub fn stations(book: &[u8], r: Heard, h: Npdu, out: &mut [u8], at: usize) -> usize {
+pub fn cells(book: &[u8], r: Heard, h: Npdu, out: &mut [u8], at: usize) -> usize {
     let a = number(r.from as u64, out, at);
     let b = source(book, h, out, a);
-    let c = fill(book, b",#s", 0, 0, r.to as u64, out, b);
-    destination(book, h, out, c)
+    let c = one(44, out, b);
+    let d = station(r.to as u64, out, c);
+    destination(book, h, out, d)
 }
 
 // Kinds of PDU without a service; an abort says who aborts.
@@ -68,6 +78,12 @@ fn bare(book: &[u8], first: u8, out: &mut [u8], at: usize) -> usize {
     fill_five(book, b"#k", 0, 0, 0, (first / 16) as u64, 0, out, at)
 }
 
+// A confirmed service, and the kind of PDU behind it.
+fn served(book: &[u8], first: u8, choice: u8, out: &mut [u8], at: usize) -> usize {
+    let a = named(book, b'q', choice as u64, out, at);
+    named(book, b'k', (first / 16) as u64, out, a)
+}
+
 // The kind of PDU, behind its service where it has one. Services that are not confirmed have numbers of their own.
 pub fn pdu(book: &[u8], first: u8, choice: u8, out: &mut [u8], at: usize) -> usize {
     match first / 16 {
@@ -75,17 +91,7 @@ pub fn pdu(book: &[u8], first: u8, choice: u8, out: &mut [u8], at: usize) -> usi
         4 => bare(book, first, out, at),
         6 => bare(book, first, out, at),
         7 => bare(book, first, out, at),
-        _ => fill_five(
-            book,
-            b"#q#k",
-            choice as u64,
-            0,
-            0,
-            (first / 16) as u64,
-            0,
-            out,
-            at,
-        ),
+        _ => served(book, first, choice, out, at),
     }
 }
 
@@ -100,19 +106,17 @@ pub fn local(first: u8, data: &[u8]) -> bool {
     data[1] < 8
 }
 
+fn invoke(r: Heard, out: &mut [u8], at: usize) -> usize {
+    let a = put(out, at, b", invoke ");
+    number(r.invoke as u64, out, a)
+}
+
 // What the report of such a message says.
 pub fn near(book: &[u8], r: Heard, out: &mut [u8], at: usize) -> usize {
-    fill_five(
-        book,
-        b"#q#k, from #2 to #s, invoke #5",
-        r.choice as u64,
-        r.from as u64,
-        r.to as u64,
-        (r.first / 16) as u64,
-        r.invoke as u64,
-        out,
-        at,
-    )
+    let a = served(book, r.first, r.choice, out, at);
+    let b = put(out, a, b", from ");
+    let c = stations(r.from, r.to, out, b);
+    invoke(r, out, c)
 }
 
 // What every report of an APDU says.
@@ -122,5 +126,5 @@ pub fn message(book: &[u8], r: Heard, h: Npdu, out: &mut [u8], at: usize) -> usi
     if r.first / 16 == 1 {
         return b;
     }
-    fill(book, b", invoke #1", r.invoke as u64, 0, 0, out, b)
+    invoke(r, out, b)
 }

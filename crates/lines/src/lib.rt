@@ -1,5 +1,5 @@
 // A report as a line in words, and as rows of a table. The frame's octets are those of the frame store, the parameters of a message that was
-// rebuilt those of the message area: both as the call that reported left them.
+// rebuilt those of the message area: both as the call that reported left them. `records` is an area for the records of a value's items.
 mod heading;
 mod heard;
 mod message;
@@ -7,25 +7,24 @@ pub mod table;
 
 use crate::heard::Heard;
 use words::fill;
+use words::named;
 use words::number;
 use words::one;
 use words::put;
 
 // A frame without a message.
 fn frame(book: &[u8], r: Heard, out: &mut [u8], at: usize) -> usize {
-    let a = fill(
-        book,
-        b"#f, from #2 to #s",
-        r.frame as u64,
-        r.from as u64,
-        r.to as u64,
-        out,
-        at,
-    );
-    if r.length == 0 {
-        return a;
+    let a = named(book, b'f', r.frame as u64, out, at);
+    let b = put(out, a, b", from ");
+    let c = heading::stations(r.from, r.to, out, b);
+    data_octets(book, r.length, out, c)
+}
+
+fn data_octets(book: &[u8], n: u16, out: &mut [u8], at: usize) -> usize {
+    if n == 0 {
+        return at;
     }
-    fill(book, b", #1 data octets", r.length as u64, 0, 0, out, a)
+    fill(book, b", #1 data octets", n as u64, 0, 0, out, at)
 }
 
 fn damage(book: &[u8], r: Heard, out: &mut [u8], at: usize) -> usize {
@@ -62,14 +61,22 @@ fn network(book: &[u8], r: Heard, data: &[u8], out: &mut [u8], at: usize) -> usi
 }
 
 // A report in words.
-fn said(book: &[u8], r: Heard, data: &[u8], area: &[u8], out: &mut [u8], at: usize) -> usize {
+fn said(
+    book: &[u8],
+    r: Heard,
+    data: &[u8],
+    area: &[u8],
+    records: &mut [u8],
+    out: &mut [u8],
+    at: usize,
+) -> usize {
     let kind = r.kind;
     match kind {
         1 => frame(book, r, out, at),
         2 => damage(book, r, out, at),
-        3 => message::whole(book, r, data, out, at),
+        3 => message::whole(book, r, data, records, out, at),
         4 => message::segment(book, r, data, out, at),
-        5 => message::complete(book, r, data, area, out, at),
+        5 => message::complete(book, r, data, area, records, out, at),
         6 => refused(book, r, out, at),
         _ => network(book, r, data, out, at),
     }
@@ -85,41 +92,38 @@ fn end(report: &[u8; 16], wanted: bool, out: &mut [u8], at: usize) -> usize {
     one(10, out, at)
 }
 
-// Whether a report is a token for one station: by far the most frequent frame of a trunk.
-fn token(r: Heard) -> bool {
-    r.kind == 1 && r.frame == 0 && r.length == 0 && r.to != 255
+// Whether a report is a token without data: by far the most frequent frame of a trunk.
+fn token(report: &[u8; 16]) -> bool {
+    report[0] == 1 && report[2] == 0 && report[10] == 0 && report[11] == 0
 }
 
-// From whom to whom a token goes.
-fn between(r: Heard, out: &mut [u8], at: usize) -> usize {
-    let a = number(r.from as u64, out, at);
-    let b = put(out, a, b" to ");
-    number(r.to as u64, out, b)
+// A token's words, without a look into the book.
+fn passed(report: &[u8; 16], out: &mut [u8], at: usize) -> usize {
+    let a = put(out, at, b": token, from ");
+    heading::stations(report[4], report[3], out, a)
 }
 
-// A token's line without a template, which costs half.
-fn passed(heard: u64, r: Heard, out: &mut [u8], at: usize) -> usize {
+// The octets heard so far.
+fn place(heard: u64, out: &mut [u8], at: usize) -> usize {
     let a = put(out, at, b"octet ");
-    let b = number(heard, out, a);
-    let c = put(out, b, b": token, from ");
-    between(r, out, c)
+    number(heard, out, a)
 }
 
-// A report in words behind the octets heard so far.
+// A report in words behind its place.
 fn told(
     book: &[u8],
-    heard: u64,
-    r: Heard,
+    report: &[u8; 16],
     data: &[u8],
     area: &[u8],
+    records: &mut [u8],
     out: &mut [u8],
     at: usize,
 ) -> usize {
-    if token(r) {
-        return passed(heard, r, out, at);
+    if token(report) {
+        return passed(report, out, at);
     }
-    let a = fill(book, b"octet #1: ", heard, 0, 0, out, at);
-    said(book, r, data, area, out, a)
+    let a = put(out, at, b": ");
+    said(book, heard::of(report), data, area, records, out, a)
 }
 
 // The line of a report: the octets heard so far, the report in words and, where wanted, its octets.
@@ -129,10 +133,12 @@ pub fn line(
     report: &[u8; 16],
     data: &[u8],
     area: &[u8],
+    records: &mut [u8],
     wanted: bool,
     out: &mut [u8],
     at: usize,
 ) -> usize {
-    let a = told(book, heard, heard::of(report), data, area, out, at);
-    end(report, wanted, out, a)
+    let a = place(heard, out, at);
+    let b = told(book, report, data, area, records, out, a);
+    end(report, wanted, out, b)
 }

@@ -58,16 +58,16 @@ pub fn begins(kind: u8) -> usize {
 }
 
 // Service parameters behind a colon.
-fn params(book: &[u8], r: Heard, s: &[u8], out: &mut [u8], at: usize) -> usize {
+fn params(book: &[u8], r: Heard, s: &[u8], records: &mut [u8], out: &mut [u8], at: usize) -> usize {
     let a = put(out, at, b": ");
-    values::service::text(book, r.first / 16, r.choice, s, out, a)
+    values::service::text(book, r.first / 16, r.choice, s, records, out, a)
 }
 
 // What an unsegmented APDU says behind its heading.
-fn said(book: &[u8], r: Heard, s: &[u8], out: &mut [u8], at: usize) -> usize {
+fn said(book: &[u8], r: Heard, s: &[u8], records: &mut [u8], out: &mut [u8], at: usize) -> usize {
     let from = begins(r.first / 16);
     if 0 < from {
-        return params(book, r, show::part(s, from, s.len()), out, at);
+        return params(book, r, show::part(s, from, s.len()), records, out, at);
     }
     let p = apdu::read(s);
     match p {
@@ -77,10 +77,24 @@ fn said(book: &[u8], r: Heard, s: &[u8], out: &mut [u8], at: usize) -> usize {
 }
 
 // An unsegmented APDU: its octets stand behind the network header.
-pub fn whole(book: &[u8], r: Heard, data: &[u8], out: &mut [u8], at: usize) -> usize {
+pub fn whole(
+    book: &[u8],
+    r: Heard,
+    data: &[u8],
+    records: &mut [u8],
+    out: &mut [u8],
+    at: usize,
+) -> usize {
     if heading::local(r.first, data) {
         let a = heading::near(book, r, out, at);
-        return said(book, r, values::span(data, 2, r.length as usize), out, a);
+        return said(
+            book,
+            r,
+            values::span(data, 2, r.length as usize),
+            records,
+            out,
+            a,
+        );
     }
     let n = npdu::read(data);
     let h = n.head;
@@ -89,6 +103,7 @@ pub fn whole(book: &[u8], r: Heard, data: &[u8], out: &mut [u8], at: usize) -> u
         book,
         r,
         values::span(data, n.next, r.length as usize),
+        records,
         out,
         a,
     )
@@ -122,6 +137,7 @@ pub fn complete(
     r: Heard,
     data: &[u8],
     area: &[u8],
+    records: &mut [u8],
     out: &mut [u8],
     at: usize,
 ) -> usize {
@@ -130,5 +146,5 @@ pub fn complete(
     let h = n.head;
     let b = heading::message(book, r, h, out, a);
     let c = fill(book, b", slot #1", r.slot as u64, 0, 0, out, b);
-    params(book, r, rebuilt(r, area), out, c)
+    params(book, r, rebuilt(r, area), records, out, c)
 }

@@ -5,7 +5,7 @@ use crate::heard::Heard;
 use crate::message;
 use npdu::Npdu;
 use values::table::Told;
-use words::fill;
+use words::number;
 use words::one;
 use words::put;
 
@@ -20,30 +20,23 @@ pub fn head(out: &mut [u8], at: usize) -> usize {
 
 // The cells in front of the object type.
 fn front(book: &[u8], place: u64, r: Heard, h: Npdu, out: &mut [u8]) -> usize {
-    let a = fill(book, b"#1,", place, 0, 0, out, 0);
-    let b = heading::stations(book, r, h, out, a);
-    let c = one(44, out, b);
-    let d = heading::pdu(book, r.first, r.choice, out, c);
-    one(44, out, d)
+    let a = number(place, out, 0);
+    let b = one(44, out, a);
+    let c = heading::cells(book, r, h, out, b);
+    let d = one(44, out, c);
+    let e = heading::pdu(book, r.first, r.choice, out, d);
+    one(44, out, e)
 }
 
-fn none(at: usize) -> Told {
-    Told {
-        at,
-        next: 0,
-        more: false,
-    }
-}
-
-// Whether a report carries a value: a message, rebuilt or not, that is a ReadProperty ack or a WriteProperty request.
-fn carries(r: Heard) -> bool {
-    if r.kind != 3 && r.kind != 5 {
+// Whether a report carries a value: a message, rebuilt or not, that is a ReadProperty ack or a WriteProperty request. Another has no rows.
+pub fn carries(report: &[u8; 16]) -> bool {
+    if report[0] != 3 && report[0] != 5 {
         return false;
     }
-    if r.first / 16 == 3 {
-        return r.choice == 12;
+    if report[5] / 16 == 3 {
+        return report[12] == 12;
     }
-    r.first / 16 == 0 && r.choice == 15
+    report[5] / 16 == 0 && report[12] == 15
 }
 
 // The parameters of a message: in its slot of the area, or behind the APDU's header in the frame.
@@ -52,7 +45,7 @@ fn params(r: Heard, from: usize, data: &[u8]) -> &[u8] {
     show::part(s, message::begins(r.first / 16), s.len())
 }
 
-// The rows of a report from an item on; none of a report that carries no value.
+// The rows of a report that carries a value, from an item on.
 pub fn rows(
     book: &[u8],
     place: u64,
@@ -60,26 +53,11 @@ pub fn rows(
     data: &[u8],
     area: &[u8],
     from: usize,
+    records: &mut [u8],
     out: &mut [u8],
     at: usize,
 ) -> Told {
     let r = heard::of(report);
-    if carries(r) {
-        return carried(book, place, r, data, area, from, out, at);
-    }
-    none(at)
-}
-
-fn carried(
-    book: &[u8],
-    place: u64,
-    r: Heard,
-    data: &[u8],
-    area: &[u8],
-    from: usize,
-    out: &mut [u8],
-    at: usize,
-) -> Told {
     let mut cells = [0u8; 256];
     let n = npdu::read(data);
     let h = n.head;
@@ -94,6 +72,7 @@ fn carried(
             from,
             &mut cells,
             used,
+            records,
             out,
             at,
         );
@@ -106,6 +85,7 @@ fn carried(
         from,
         &mut cells,
         used,
+        records,
         out,
         at,
     )

@@ -10,7 +10,8 @@ use output::Gathered;
 use values::table::Told;
 use wish::Wish;
 
-// The line or the rows of a report.
+// The line or the rows of a report. `records`: an area for the records of a value's items, 12 octets each: for as many items as all parameters that
+// are read may have, 2,048.
 fn tell(
     book: &[u8],
     w: Wish,
@@ -18,13 +19,17 @@ fn tell(
     report: &[u8; 16],
     store: &[u8; 501],
     area: &[u8; 65536],
+    records: &mut [u8; 24576],
     out: &mut [u8; 131072],
     at: usize,
 ) -> Gathered {
     if w.csv {
-        return rows(book, heard, report, store, area, out, at);
+        if lines::table::carries(report) {
+            return rows(book, heard, report, store, area, records, out, at);
+        }
+        return output::so_far(at);
     }
-    let a = lines::line(book, heard, report, store, area, w.octets, out, at);
+    let a = lines::line(book, heard, report, store, area, records, w.octets, out, at);
     output::when_full(a, out)
 }
 
@@ -35,6 +40,7 @@ fn rows(
     report: &[u8; 16],
     store: &[u8; 501],
     area: &[u8; 65536],
+    records: &mut [u8; 24576],
     out: &mut [u8; 131072],
     at: usize,
 ) -> Gathered {
@@ -42,7 +48,7 @@ fn rows(
     let mut from = 0;
     let mut left: usize = 2049;
     while 0 < left {
-        let t = lines::table::rows(book, heard, report, store, area, from, out, g.at);
+        let t = lines::table::rows(book, heard, report, store, area, from, records, out, g.at);
         g = output::when_full(t.at, out);
         if !t.more || g.stopped {
             return g;
@@ -62,12 +68,13 @@ fn turn(
     store: &mut [u8; 501],
     area: &mut [u8; 65536],
     counts: &mut [u64; 12],
+    records: &mut [u8; 24576],
     out: &mut [u8; 131072],
 ) -> Ear {
     let mut report = [0u8; 16];
     let f = ear::feed(e, rest, store, &mut report, area, counts);
     if f.more {
-        return f.wrote(tell(book, w, f.octets, &report, store, area, out, f.at));
+        return f.wrote(tell(book, w, f.octets, &report, store, area, records, out, f.at));
     }
     f
 }
@@ -81,6 +88,7 @@ fn piece(
     store: &mut [u8; 501],
     area: &mut [u8; 65536],
     counts: &mut [u64; 12],
+    records: &mut [u8; 24576],
     out: &mut [u8; 131072],
 ) -> Ear {
     let start = e.octets;
@@ -96,6 +104,7 @@ fn piece(
             store,
             area,
             counts,
+            records,
             out,
         );
         left -= 1;
@@ -113,6 +122,7 @@ fn some(
     store: &mut [u8; 501],
     area: &mut [u8; 65536],
     counts: &mut [u64; 12],
+    records: &mut [u8; 24576],
     out: &mut [u8; 131072],
 ) -> Ear {
     let got = libc::read(fd, buf);
@@ -131,6 +141,7 @@ fn some(
         store,
         area,
         counts,
+        records,
         out,
     );
     f.flushed(out)
@@ -145,13 +156,14 @@ fn all(
     store: &mut [u8; 501],
     area: &mut [u8; 65536],
     counts: &mut [u64; 12],
+    records: &mut [u8; 24576],
     out: &mut [u8; 131072],
 ) -> Ear {
     let mut buf = io::large_buffer();
     let mut e = fresh;
     let mut turns = u64::MAX;
     while turns > 0 && e.more {
-        e = some(book, e, w, fd, &mut buf, store, area, counts, out);
+        e = some(book, e, w, fd, &mut buf, store, area, counts, records, out);
         turns -= 1;
     }
     e
@@ -165,11 +177,12 @@ fn end(
     store: &[u8; 501],
     area: &[u8; 65536],
     counts: &mut [u64; 12],
+    records: &mut [u8; 24576],
     out: &mut [u8; 131072],
 ) {
     let mut report = [0u8; 16];
     let f = ear::silence(e, &mut report, counts);
-    let g = last(book, f, w, &report, store, area, out);
+    let g = last(book, f, w, &report, store, area, records, out);
     closing::line(book, g, w.csv, counts, out);
 }
 
@@ -180,10 +193,11 @@ fn last(
     report: &[u8; 16],
     store: &[u8; 501],
     area: &[u8; 65536],
+    records: &mut [u8; 24576],
     out: &mut [u8; 131072],
 ) -> Ear {
     if e.more {
-        return e.wrote(tell(book, w, e.octets, report, store, area, out, e.at));
+        return e.wrote(tell(book, w, e.octets, report, store, area, records, out, e.at));
     }
     e
 }
@@ -192,6 +206,7 @@ fn listen(book: &[u8], w: Wish, fd: i32) {
     let mut store = [0u8; 501];
     let mut area = io::large_buffer();
     let mut counts = [0u64; 12];
+    let mut records = [0u8; 24576];
     let mut out = [0u8; 131072];
     let at = output::start(w.csv, &mut out);
     let e = all(
@@ -202,9 +217,19 @@ fn listen(book: &[u8], w: Wish, fd: i32) {
         &mut store,
         &mut area,
         &mut counts,
+        &mut records,
         &mut out,
     );
-    end(book, e, w, &store, &area, &mut counts, &mut out);
+    end(
+        book,
+        e,
+        w,
+        &store,
+        &area,
+        &mut counts,
+        &mut records,
+        &mut out,
+    );
 }
 
 // Listens as the arguments ask for.

@@ -1,46 +1,34 @@
-// What stands at a place of a value, as plain fields.
-use tags::Tag;
+// An item of a value, from the record that `items::list` wrote of it (document 01: "kind, number, depth, boolean value else 0, contents place and
+// length (4 each, high octet first)"). The depth is told by the borders of groups.
 
-// `kind`: 0 application, 1 context, 2 opening, 3 closing, 4 for no tag; `place`: the octet after the tag; `next`: after the contents.
+// `kind`: 0 application, 1 context, 2 opening, 3 closing; `place`: the octet after the tag.
 pub struct Item {
     pub kind: u8,
     pub number: u8,
     pub value: u8,
     pub place: usize,
     pub len: usize,
-    pub next: usize,
 }
 
-fn border(kind: u8, number: u8, place: usize) -> Item {
-    Item {
-        kind,
-        number,
-        value: 0,
-        place,
-        len: 0,
-        next: place,
+// The i-th item; a closing tag where there is no such record.
+pub fn item_of(records: &[u8], i: usize) -> Item {
+    if i < 2048 {
+        let p = i * 12;
+        if p + 12 <= records.len() {
+            return Item {
+                kind: records[p],
+                number: records[p + 1],
+                value: records[p + 3],
+                place: octets::value(records, p + 4, 4) as usize,
+                len: octets::value(records, p + 8, 4) as usize,
+            };
+        }
     }
-}
-
-pub fn item_at(s: &[u8], at: usize) -> Item {
-    let t = tags::head(s, at);
-    match t {
-        Tag::Item {
-            kind,
-            number,
-            value,
-            place,
-            len,
-        } => Item {
-            kind,
-            number,
-            value,
-            place,
-            len,
-            next: std::num::wrapping_add_usize(place, len),
-        },
-        Tag::Opening { number, place } => border(2, number, place),
-        Tag::Closing { number, place } => border(3, number, place),
-        Tag::Refused(_) => border(4, 0, s.len()),
+    Item {
+        kind: 3,
+        number: 0,
+        value: 0,
+        place: 0,
+        len: 0,
     }
 }

@@ -1,18 +1,20 @@
 // Values as rows of a table (RFC 4180): a row for each item of a ReadProperty ack or a WriteProperty request.
+use crate::carried;
+use crate::carried::Carried;
 use crate::contents;
 use crate::item::Item;
-use crate::item::item_at;
+use crate::item::item_of;
 use crate::long;
 use crate::span;
+use items::Tally;
 use services::Answer;
-use services::Service;
 use services::Target;
 use words::fill;
 use words::one;
 use words::put;
 use words::room;
 
-// Where the rows ended, and the place of the item to go on with where the area had no room for more.
+// Where the rows ended, and the number of the item to go on with where the area had no room for more.
 pub struct Told {
     pub at: usize,
     pub next: usize,
@@ -60,50 +62,76 @@ fn ended(at: usize, next: usize, more: bool) -> Told {
     Told { at, next, more }
 }
 
-// The row of the item at a place.
-fn row(book: &[u8], s: &[u8], next: usize, front: &[u8], out: &mut [u8], at: usize) -> Told {
-    let r = item_at(s, next);
+// The row of an item.
+fn row(book: &[u8], s: &[u8], r: Item, front: &[u8], out: &mut [u8], at: usize) -> usize {
     let a = put(out, at, front);
     let b = cells(book, s, r, out, a);
-    ended(one(10, out, b), r.next, r.next < s.len())
+    one(10, out, b)
 }
 
-// The rows of a value from an item on, as far as there is room. Each item has an octet at least, so no more turns than octets are needed.
-fn every(book: &[u8], s: &[u8], from: usize, front: &[u8], out: &mut [u8], at: usize) -> Told {
-    let mut t = ended(at, from, true);
-    let mut left = s.len();
-    while 0 < left && t.more {
-        t = row(book, s, t.next, front, out, t.at);
-        if room(out, t.at) < ROOM {
-            return t;
-        }
-        left -= 1;
-    }
-    t
-}
-
-// The rows of a value; one without items is a row without type and value. `front` holds the cells in front of the object type, `used` octets.
-fn value(
+// The rows of n items from one of them on, as far as there is room.
+fn every(
     book: &[u8],
-    t: Target,
     s: &[u8],
+    n: usize,
+    records: &[u8],
     from: usize,
-    front: &mut [u8],
-    used: usize,
+    front: &[u8],
     out: &mut [u8],
     at: usize,
 ) -> Told {
-    let end = target(book, t, front, used);
-    let cells = span(front, 0, end);
-    if s.len() == 0 {
-        let a = put(out, at, cells);
-        let b = one(44, out, a);
-        return ended(one(10, out, b), 0, false);
+    let mut to = at;
+    let mut i = from;
+    while i < n {
+        to = row(book, s, item_of(records, i), front, out, to);
+        i += 1;
+        if room(out, to) < ROOM {
+            return ended(to, i, i < n);
+        }
     }
-    every(book, s, from, cells, out, at)
+    ended(to, i, false)
 }
 
-// The rows of a PDU of this kind and choice, from an item on.
+// A value without items is a row without type and value.
+fn empty(front: &[u8], out: &mut [u8], at: usize) -> Told {
+    let a = put(out, at, front);
+    let b = put(out, a, b",\n");
+    ended(b, 0, false)
+}
+
+// The rows of a value, from the records that `items::list` writes of its items; `front` holds the cells in front of its type.
+fn listed(
+    book: &[u8],
+    s: &[u8],
+    from: usize,
+    front: &[u8],
+    records: &mut [u8],
+    out: &mut [u8],
+    at: usize,
+) -> Told {
+    let n = items::list(s, records);
+    match n {
+        Tally::Items(k) => {
+            if k == 0 {
+                return empty(front, out, at);
+            }
+            every(book, s, k, records, from, front, out, at)
+        }
+        Tally::Refused(_) => ended(at, 0, false),
+    }
+}
+
+// What the parameters of a PDU of this kind and choice carry; nothing where they are refused.
+fn read(kind: u8, choice: u8, s: &[u8]) -> Carried {
+    let r = services::read(kind, choice, s);
+    match r {
+        Answer::Good(v) => carried::of(v),
+        Answer::Refused(_) => Carried::Nothing,
+    }
+}
+
+// The rows of a PDU of this kind and choice, from an item on. `front` holds the cells in front of the object type, `used` octets; `records`: an area
+// for the records of a value's items, lent.
 pub fn rows(
     book: &[u8],
     kind: u8,
@@ -112,41 +140,19 @@ pub fn rows(
     from: usize,
     front: &mut [u8],
     used: usize,
+    records: &mut [u8],
     out: &mut [u8],
     at: usize,
 ) -> Told {
-    let r = services::read(kind, choice, s);
-    match r {
-        Answer::Good(v) => carried(book, v, s, from, front, used, out, at),
-        Answer::Refused(_) => ended(at, 0, false),
-    }
-}
-
-// The rows of a service that carries a value.
-fn carried(
-    book: &[u8],
-    v: Service,
-    s: &[u8],
-    from: usize,
-    front: &mut [u8],
-    used: usize,
-    out: &mut [u8],
-    at: usize,
-) -> Told {
-    match v {
-        Service::ReadPropertyAck(r) => {
-            let t = r.target;
-            let w = r.value;
-            value(book, t, span(s, w.at, w.len), from, front, used, out, at)
+    let c = read(kind, choice, s);
+    match c {
+        Carried::Value(h) => {
+            let t = h.target;
+            let v = h.value;
+            let end = target(book, t, front, used);
+            let cells = span(front, 0, end);
+            listed(book, span(s, v.at, v.len), from, cells, records, out, at)
         }
-        Service::WriteProperty(r) => {
-            let t = r.target;
-            let w = r.value;
-            value(book, t, span(s, w.at, w.len), from, front, used, out, at)
-        }
-        Service::ReadProperty(_) => ended(at, 0, false),
-        Service::WhoIs(_) => ended(at, 0, false),
-        Service::IAm(_) => ended(at, 0, false),
-        Service::Error(_) => ended(at, 0, false),
+        Carried::Nothing => ended(at, 0, false),
     }
 }

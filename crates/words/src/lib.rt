@@ -7,6 +7,8 @@ mod template;
 pub use names::book;
 pub use template::fill;
 pub use template::fill_five;
+pub use template::named;
+pub use template::station;
 ghost use Prim.Native.Nat.{_+_, _≤_};
 ghost use lib.ListN.{length};
 
@@ -76,16 +78,27 @@ fn widths(n: u64) -> usize
     16 + width(n / 10000000000000000)
 }
 
-// The last k decimal digits of a number at a place.
+// Two decimal digits at a place.
+fn pair(n: u8, out: &mut [u8], at: usize)
+    requires { ⌜ at + 2 ≤ length (now out) ⌝ }
+{
+    out[at] = 48 + n / 10;
+    out[at + 1] = 48 + n % 10;
+}
+
+// The last k decimal digits of a number at a place, two at a time.
 fn digits(n: u64, k: usize, out: &mut [u8], at: usize)
     requires { ⌜ at + k ≤ length (now out) ⌝ }
 {
     let mut left = n;
     let mut i = k;
-    while 0 < i {
-        i -= 1;
-        out[at + i] = 48 + (left % 10) as u8;
-        left = left / 10;
+    while 1 < i {
+        i -= 2;
+        pair((left % 100) as u8, out, at + i);
+        left = left / 100;
+    }
+    if i == 1 {
+        out[at] = 48 + (left % 10) as u8;
     }
 }
 

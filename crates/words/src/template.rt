@@ -12,7 +12,7 @@ use crate::put;
 const WORDS: u64 = 60000;
 
 // A station's number; 255 is all of them.
-fn station(n: u64, out: &mut [u8], at: usize) -> usize {
+pub fn station(n: u64, out: &mut [u8], at: usize) -> usize {
     if n == 255 {
         return put(out, at, b"all");
     }
@@ -41,7 +41,7 @@ fn bare(book: &[u8], letter: u8, n: u64, out: &mut [u8], at: usize) -> usize {
 }
 
 // A number by its name in a group, else behind the group's own word.
-fn named(book: &[u8], letter: u8, n: u64, out: &mut [u8], at: usize) -> usize {
+pub fn named(book: &[u8], letter: u8, n: u64, out: &mut [u8], at: usize) -> usize {
     let w = index::name(book, letter, n);
     if w.len() == 0 {
         let a = put(out, at, index::own(book, letter));

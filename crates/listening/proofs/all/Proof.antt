@@ -3,10 +3,10 @@ use Rattle.listening.proofs.all.Statement.{statement}
 use Rattle.listening.proofs.all.Tie as tie
 
 abbrev Inv-loop : tie.InvT-loop
-Inv-loop book w fd store₀ area₀ counts₀ out₀ buf₀ e₀ turns₀ store area counts out buf e turns = Unit {0}
+Inv-loop book w fd store₀ area₀ counts₀ records₀ out₀ buf₀ e₀ turns₀ store area counts records out buf e turns = Unit {0}
 
 abbrev μ-loop : tie.MeasureT-loop
-μ-loop book w fd store₀ area₀ counts₀ out₀ buf₀ e₀ turns₀ store area counts out buf e turns = turns
+μ-loop book w fd store₀ area₀ counts₀ records₀ out₀ buf₀ e₀ turns₀ store area counts records out buf e turns = turns
 
 large-buffer-requires : tie.Need-large-buffer-requires Inv-loop μ-loop
 large-buffer-requires c κs = search needs

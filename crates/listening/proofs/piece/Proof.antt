@@ -3,10 +3,10 @@ use Rattle.listening.proofs.piece.Statement.{statement}
 use Rattle.listening.proofs.piece.Tie as tie
 
 abbrev Inv-loop : tie.InvT-loop
-Inv-loop book w s store₀ area₀ counts₀ out₀ start now₀ left₀ store area counts out now left = Unit {0}
+Inv-loop book w s store₀ area₀ counts₀ records₀ out₀ start now₀ left₀ store area counts records out now left = Unit {0}
 
 abbrev μ-loop : tie.MeasureT-loop
-μ-loop book w s store₀ area₀ counts₀ out₀ start now₀ left₀ store area counts out now left = left
+μ-loop book w s store₀ area₀ counts₀ records₀ out₀ start now₀ left₀ store area counts records out now left = left
 
 loop-holds : tie.Need-loop-holds Inv-loop μ-loop
 loop-holds c = search needs

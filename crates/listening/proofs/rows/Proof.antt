@@ -3,10 +3,10 @@ use Rattle.listening.proofs.rows.Statement.{statement}
 use Rattle.listening.proofs.rows.Tie as tie
 
 abbrev Inv-loop : tie.InvT-loop
-Inv-loop book heard report store area out₀ at g₀ from₀ left₀ out g from left = Unit {0}
+Inv-loop book heard report store area records₀ out₀ at g₀ from₀ left₀ records out g from left = Unit {0}
 
 abbrev μ-loop : tie.MeasureT-loop
-μ-loop book heard report store area out₀ at g₀ from₀ left₀ out g from left = left
+μ-loop book heard report store area records₀ out₀ at g₀ from₀ left₀ records out g from left = left
 
 so-far-requires : tie.Need-so-far-requires Inv-loop μ-loop
 so-far-requires c κs = search needs

@@ -1,14 +1,15 @@
 use borrow.Author.Needs.{needs}
 use lib.ListN.{length}
 use mathlib.Core.Path.{_≡_}
+use Prim.Native.Nat.{_-_}
 use Rattle.values.proofs.list.text.Statement.{statement}
 use Rattle.values.proofs.list.text.Tie as tie
 
 abbrev Inv-loop : tie.InvT-loop
-Inv-loop book s out₀ at w₀ left₀ out w left = length out ≡ length out₀
+Inv-loop book s n records out₀ at to₀ opened₀ i₀ out to opened i = length out ≡ length out₀
 
 abbrev μ-loop : tie.MeasureT-loop
-μ-loop book s out₀ at w₀ left₀ out w left = left
+μ-loop book s n records out₀ at to₀ opened₀ i₀ out to opened i = n - i
 
 slice-aggregate-put : tie.Need-slice-aggregate-put Inv-loop μ-loop
 slice-aggregate-put c = search needs
@@ -25,23 +26,32 @@ returns c = search needs
 loop-holds : tie.Need-loop-holds Inv-loop μ-loop
 loop-holds c = search needs
 
-step-requires : tie.Need-step-requires Inv-loop μ-loop
-step-requires c κs = search needs
+item-of-requires : tie.Need-item-of-requires Inv-loop μ-loop
+item-of-requires c κs = search needs
 
-sub-left : tie.Need-sub-left Inv-loop μ-loop
-sub-left c = search needs
+room-requires : tie.Need-room-requires Inv-loop μ-loop
+room-requires c κs = search needs
 
-loop-less : tie.Need-loop-less Inv-loop μ-loop
-loop-less c = search needs
-
-loop-again : tie.Need-loop-again Inv-loop μ-loop
-loop-again c = search needs
+cut-requires : tie.Need-cut-requires Inv-loop μ-loop
+cut-requires c κs = search needs
 
 same-length-2 : tie.Need-same-length-2 Inv-loop μ-loop
 same-length-2 c = search needs
 
 returns-2 : tie.Need-returns-2 Inv-loop μ-loop
 returns-2 c = search needs
+
+next-requires : tie.Need-next-requires Inv-loop μ-loop
+next-requires c κs = search needs
+
+add-i : tie.Need-add-i Inv-loop μ-loop
+add-i c = search needs
+
+loop-less : tie.Need-loop-less Inv-loop μ-loop
+loop-less c = search needs
+
+loop-again : tie.Need-loop-again Inv-loop μ-loop
+loop-again c = search needs
 
 same-length-3 : tie.Need-same-length-3 Inv-loop μ-loop
 same-length-3 c = search needs
@@ -60,11 +70,14 @@ text-spec =
     same-length
     returns
     loop-holds
-    step-requires
-    sub-left
-    loop-less
-    loop-again
+    item-of-requires
+    room-requires
+    cut-requires
     same-length-2
     returns-2
+    next-requires
+    add-i
+    loop-less
+    loop-again
     same-length-3
     returns-3)
