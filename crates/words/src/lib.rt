@@ -9,7 +9,7 @@ pub use template::fill;
 pub use template::fill_five;
 pub use template::named;
 pub use template::station;
-ghost use Prim.Native.Nat.{_+_, _≤_};
+ghost use Prim.Native.Nat.{_+_, _≤_, _<_};
 ghost use lib.ListN.{length};
 
 // Text; one that does not fit is not written.
@@ -102,15 +102,62 @@ fn digits(n: u64, k: usize, out: &mut [u8], at: usize)
     }
 }
 
+// Four decimal digits at a place.
+fn four(n: u16, out: &mut [u8], at: usize)
+    requires { ⌜ (n < 10000) × (at + 4 ≤ length (now out)) ⌝ }
+{
+    pair((n / 100) as u8, out, at);
+    pair((n % 100) as u8, out, at + 2);
+}
+
+// A number of at most four digits at a place.
+fn front(n: u16, out: &mut [u8], at: usize) -> usize
+    requires { ⌜ (n < 10000) × (at + 4 ≤ length (now out)) ⌝ }
+    ensures { λ r. ⌜ r ≤ at + 4 ⌝ }
+{
+    if n < 10 {
+        one(48 + n as u8, out, at);
+        return at + 1;
+    }
+    if n < 100 {
+        pair(n as u8, out, at);
+        return at + 2;
+    }
+    if n < 1000 {
+        one(48 + (n / 100) as u8, out, at);
+        pair((n % 100) as u8, out, at + 1);
+        return at + 3;
+    }
+    four(n, out, at);
+    at + 4
+}
+
+// A number of at most eight digits at a place: what nearly all are, so without counting them.
+fn eight(n: u32, out: &mut [u8], at: usize) -> usize
+    requires { ⌜ (n < 100000000) × (at + 8 ≤ length (now out)) ⌝ }
+{
+    if n < 10000 {
+        return front(n as u16, out, at);
+    }
+    let a = front((n / 10000) as u16, out, at);
+    four((n % 10000) as u16, out, a);
+    a + 4
+}
+
 // A number in decimal.
 pub fn number(n: u64, out: &mut [u8], at: usize) -> usize {
     if n < 10 {
         return one(48 + n as u8, out, at);
     }
-    let k = widths(n);
     if out.len() < at {
         return at;
     }
+    if n < 100000000 {
+        if 8 <= out.len() - at {
+            return eight(n as u32, out, at);
+        }
+    }
+    let k = widths(n);
     if out.len() - at < k {
         return at;
     }
