@@ -5,6 +5,7 @@ pub mod Fed
 pub mod Gathering
 pub mod Judging
 pub mod Turning
+pub mod Ending
 pub mod Going
 pub mod Alike
 pub mod Chains

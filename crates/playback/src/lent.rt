@@ -1,6 +1,7 @@
 // The same call over a lent frame store: link and slots go in and come back, the store stays where it is.
 use crate::orders;
 use crate::orders::Record;
+use collector::frame;
 use frames::Link;
 use frames::Outcome;
 use frames::Phase;
@@ -41,7 +42,7 @@ struct Lull {
     link: Link,
 }
 
-// 60, 59 or 0, judged before any record. Feeding judges both again for each gathered piece.
+// 60, 59 or 0, judged before any record, and by no turn again.
 fn judge(link: Link, slots: Slots, report: usize, area: usize) -> u8
     ensures { λ r. ⌜ Judges link slots report area r ⌝ }
 {
@@ -103,7 +104,7 @@ fn hush(link: Link, report: &mut [u8]) -> Lull
     }
 }
 
-// How many octets to feed together: about to the end of what is coming in, so that at most five are gathered behind a report. Any number to 64 is right; a small one has feeding judge more often.
+// How many octets to feed together: about to the end of what is coming in, so that at most five are gathered behind a report. Any number to 64 is right; a small one has the link fed more often.
 fn span(link: Link) -> usize
     ensures { λ r. ⌜ r ≤ 64 ⌝ }
 {
@@ -127,7 +128,7 @@ fn span(link: Link) -> usize
     }
 }
 
-// The octet records in front, fed together.
+// The octet records in front: the link eats them together, and what the last of them ended is done as feeding does it.
 fn eat(
     link: Link,
     slots: Slots,
@@ -141,17 +142,58 @@ fn eat(
 {
     let mut piece: [u8; 64] = [0; 64];
     let n = orders::gather(rest, span(link), &mut piece);
-    let f = collector::lent::feed(link, slots, store, &piece[..n], report, area);
+    let f = link.feed(&piece[..n], store);
+    let eaten = f.eaten;
     let link = f.link;
-    let slots = f.slots;
-    Lap {
-        ends: f.reported,
-        number: 0,
-        eaten: f.eaten,
-        reported: f.reported,
-        moved: f.moved,
-        link,
-        slots,
+    let ended = f.outcome;
+    match ended {
+        Outcome::Quiet => Lap {
+            ends: false,
+            number: 0,
+            eaten,
+            reported: false,
+            moved: false,
+            link,
+            slots,
+        },
+        Outcome::Damage(d) => {
+            frame::put_damage(report, d);
+            Lap {
+                ends: true,
+                number: 0,
+                eaten,
+                reported: true,
+                moved: false,
+                link,
+                slots,
+            }
+        }
+        Outcome::Frame => {
+            let head = link.head;
+            let n = frames::length_of(head) as usize;
+            if frame::carries(head) {
+                let slots = frame::act(head, &store[..n], slots, report, area);
+                return Lap {
+                    ends: true,
+                    number: 0,
+                    eaten,
+                    reported: true,
+                    moved: true,
+                    link,
+                    slots,
+                };
+            }
+            frame::put_other(head, &store[..n], report);
+            Lap {
+                ends: true,
+                number: 0,
+                eaten,
+                reported: true,
+                moved: false,
+                link,
+                slots,
+            }
+        }
     }
 }
 

@@ -1,6 +1,7 @@
-use borrow.Author.Needs.{needs}
+use Rattle.collector.proofs.Eaten.{carried}
 use Rattle.playback.proofs.Gathering.{gathered-count}
-use Rattle.playback.proofs.Turning.{turn-eat}
+use Rattle.playback.proofs.Ending.{lends-both, ended-inside, ended-taken, ended-short, turn-quiet, turn-damage, turn-carried, turn-other}
+use borrow.Author.Needs.{needs}
 use Rattle.playback.proofs.lent.eat.Statement.{statement}
 use Rattle.playback.proofs.lent.eat.Tie as tie
 
@@ -16,5 +17,26 @@ eat-spec =
     (λ c κs. search needs)
     (λ c. search needs)
     (λ c. search needs)
+    (λ c κs. search needs)
     (λ c. search needs)
-    (λ c. search (needs, turn-eat)))
+    (λ c κs. search needs)
+    (λ c. search needs)
+    (λ c κs. search needs)
+    (λ c. search (needs, ended-inside))
+    (λ c. search (needs, ended-taken))
+    (λ c κs. search (needs, lends-both, ended-short, carried))
+    (λ c. search needs)
+    (λ c. search needs)
+    (λ c. search needs)
+    (λ c. search (needs, turn-carried))
+    (λ c. search (needs, ended-inside))
+    (λ c. search (needs, ended-taken))
+    (λ c κs. search (needs, ended-short, carried))
+    (λ c. search needs)
+    (λ c. search (needs, turn-quiet))
+    (λ c. search needs)
+    (λ c. search needs)
+    (λ c. search (needs, turn-damage))
+    (λ c. search needs)
+    (λ c. search needs)
+    (λ c. search (needs, turn-other)))
