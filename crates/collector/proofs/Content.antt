@@ -1,14 +1,14 @@
 -- What a frame's data are, test by test.
 use Prim.Native.Nat.{ℕ, _+_, _-_, _*_, _≤_, _<_}
 use mathlib.Core.Path.{_≡_, refl, sym, ap, _∙_}
-use mathlib.Core.Bool.{Bool, true, false}
+use mathlib.Core.Bool.{true, false}
 use mathlib.Core.List.{List}
 use native.Mathlib.Omega.{arith}
-use lib.Dec.{lit≤, eqb}
+use lib.Dec.{lit≤}
 use lib.ListN.{length, take, drop, length-drop}
 use lib.Seq.{take-length}
 use borrow.Author.Tests.{lt-ltb, le-ltb, eq-eqb, ne-eqb}
-use Rattle.octets.specs.Choice.{pick, given-true, given-false, given-cases, impossible}
+use Rattle.octets.specs.Choice.{given-true, given-false, given-cases, impossible}
 use Rattle.octets.specs.Reading.{oct}
 use Rattle.npdu.specs.Reading.{readNpdu}
 use Rattle.npdu.specs.declared.Reading.{Reading}
@@ -33,22 +33,11 @@ use Rattle.reports.specs.Layout.{reportOctets}
 use Rattle.reports.specs.Kinds.{unsegmented, segmentTaken, complete, refusal}
 use Rattle.reports.specs.declared.Report.{Report}
 use Rattle.collector.specs.Heard.{Route, routeOf, partsOf}
-use Rattle.collector.specs.Frame.{Content, keyOf, segmentFrom, byTags, plainReport, stepReport, apduContent, npduContent, contentOf}
+use Rattle.collector.specs.Frame.{keyOf, segmentFrom, byTags, plainReport, stepReport, apduContent, npduContent, contentOf}
 use Rattle.collector.specs.Frame.Content.{other, refuses, network, refusesBehind, message}
-use Rattle.collector.specs.Acting.{carrying, Named}
+use Rattle.collector.specs.Acting.{Named}
 use Rattle.collector.specs.declared.heard.Heard.{Heard}
 use Rattle.collector.specs.declared.heard.Parts.{Parts}
-
--- two tests with one value behind both: one of them holds, or none
-chosen : (a b : Bool) (x y : Content) → pick a true b ≡ true → pick a x (pick b x y) ≡ x
-chosen true b x y e = refl
-chosen false true x y e = refl
-chosen false false x y e = impossible (cc)
-
-unchosen : (a b : Bool) (x y : Content) → pick a true b ≡ false → pick a x (pick b x y) ≡ y
-unchosen true b x y e = impossible (cc)
-unchosen false true x y e = impossible (cc)
-unchosen false false x y e = refl
 
 -- a frame of type 5, of type 6, of another type
 module _ (w : Heard) (payload : List ℕ) where
@@ -63,15 +52,6 @@ module _ (w : Heard) (payload : List ℕ) where
   pub content-other : (w .frame .kind ≡ 5 → ⊥) → (w .frame .kind ≡ 6 → ⊥) → contentOf w payload ≡ other (length payload)
   unfolding contentOf
   content-other n5 n6 = rw (ne-eqb (w .frame .kind) 5 n5, ne-eqb (w .frame .kind) 6 n6)
-
-  -- the same by what the code asks
-  pub content-carried : carrying w ≡ true → contentOf w payload ≡ npduContent payload (readNpdu payload)
-  unfolding contentOf
-  content-carried e = chosen (eqb (w .frame .kind) 5) (eqb (w .frame .kind) 6) (npduContent payload (readNpdu payload)) (other (length payload)) e
-
-  pub content-uncarried : carrying w ≡ false → contentOf w payload ≡ other (length payload)
-  unfolding contentOf
-  content-uncarried e = unchosen (eqb (w .frame .kind) 5) (eqb (w .frame .kind) 6) (npduContent payload (readNpdu payload)) (other (length payload)) e
 
 module _ (payload : List ℕ) (n : Reading) (e : n ≡ readNpdu payload) where
   pub npdu-refused : 0 < n .refused → npduContent payload (readNpdu payload) ≡ refuses (n .refused)

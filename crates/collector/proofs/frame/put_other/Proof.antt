@@ -1,4 +1,4 @@
-use Rattle.collector.proofs.Actions.{frame-other}
+use Rattle.collector.proofs.Actions.{frame-uncarried}
 use borrow.Author.Needs.{needs}
 use Rattle.collector.proofs.frame.put_other.Statement.{statement}
 use Rattle.collector.proofs.frame.put_other.Tie as tie
@@ -14,4 +14,4 @@ put-other-spec =
     (λ c κs. search needs)
     (λ c κs. search needs)
     (λ c. search needs)
-    (λ c. search (needs, frame-other)))
+    (λ c. search (needs, frame-uncarried)))
