@@ -12,7 +12,7 @@
    hb_replay's 67 is the one exception: the records before the bad one were eaten, state and message area are as after them, *eaten is their number; the report
    area is as it was and *reported is 0.
 
-   Stack. Measured, in octets: hb_replay 4,464; hb_feed 4,080; hb_service_read 3,264; hb_items_list 3,008; hb_item_step 2,992; hb_items_count 2,976;
+   Stack. Measured, in octets: hb_replay 4,144; hb_feed 3,840; hb_service_read 3,264; hb_items_list 3,008; hb_item_step 2,992; hb_items_count 2,976;
    hb_item_next 2,944; hb_service_write 1,200; every other call below 500 (docs/PERFORMANCE.md).
 
    What each call promises is proved; its statement stands in crates/hitchbarley/src, with the definitions in specs. */
