@@ -6,8 +6,8 @@
    nothing is allocated, so calls for several trunks may be made at once, each with areas of its own. A length of 0 with any pointer is fine, but the pointer
    is not null by the language's rules: pass the address of any octet. (A null pointer with length 0 was tried in 18 calls and did no harm; nothing promises it.)
 
-   Numbers. Every call but the check sums answers 0 or the number of a refusal. On a refusal no area changes, and every number given back is 0. So after 59 or
-   60 *eaten is 0: a loop that offers the rest of its piece again must look at the answer, or it never ends. 60 is a mistake in the program, an area of another
+   Numbers. Every call but the check sums answers 0 or the number of a refusal. On a refusal no area changes, and every number given back is 0. So after 59,
+   60 and 68 *eaten is 0, and so it is after a 67 that is offered again: a loop that offers the rest of its piece must look at the answer, or it never ends. 60 is a mistake in the program, an area of another
    size. 59 is a state area that was not made by hb_fresh or was written by somebody else: make it anew by hb_fresh; what was half received is lost, and only that.
    hb_replay's 67 is the one exception: the records before the bad one were eaten, state and message area are as after them, *eaten is their number; the report
    area is as it was and *reported is 0.
@@ -39,7 +39,8 @@ enum {
     HB_SERVICE = 26, /* octets of a service's record */
     HB_RECORD = 4,   /* octets of a recorded trunk's record */
 
-    /* where the last frame stands in the state area, after a report of kind 1 or 3 to 7 and until the next hb_feed */
+    /* where the last frame stands in the state area, after a report of kind 1 or 3 to 7 and until the next hb_feed or
+       hb_replay */
     HB_HEAD = 3, /* its type, destination, source, and the length of its data (2 octets, high first) at HB_HEAD + 3 */
     HB_FRAME = 9 /* its data: in a frame of type 5 or 6 the network header, and behind that the APDU */
 };

@@ -14,6 +14,7 @@ use Rattle.runs.specs.Run.{Run}
 use Rattle.runs.specs.Run.Event.{octet, silence}
 use Rattle.runs.specs.Run.Order.{trunk, forget}
 use Rattle.runs.specs.Offered.{answer}
+use Rattle.runs.specs.Offered.Offer.{call}
 use Rattle.frames.specs.declared.Receiver.{Receiver}
 use Rattle.frames.specs.Step.{soundOf, stepOf, feedFrom, stillOf, silenceOf}
 use Rattle.messages.specs.Slots as Messages
@@ -48,7 +49,7 @@ use Rattle.demands.specs.Replay.{RecordsAre, RecordsExact, Whole, Arrays
 use Rattle.demands.proofs.FiftyNine.{feed-numbers}
 
 pub records-are : RecordsAre
-records-are = (refl, λ x run. refl, λ run. refl, λ i run. refl)
+records-are = (refl, refl, λ x run. refl, λ run. refl, λ i run. refl)
 
 pub records-exact : RecordsExact
 records-exact = records-exactly
@@ -302,8 +303,8 @@ pub replay-by-position : ReplayByPosition
 replay-by-position c area P z run e o = Replaying.replay-by-position c area P z o
 
 pub replay-any-part : ReplayAnyPart
-replay-any-part c report area lent behind r report′ area′ k b h =
-    record { behind = behind; report = report; report′ = report′; answer = r; ends = b; sixteen = k; promise = h; ate = refl; says = refl; leaves = refl }
+replay-any-part p c report area lent run behind r report′ area′ e k b h w =
+    (w .0, call lent run (record { behind = behind; report = report; report′ = report′; answer = r; ends = b; sixteen = k; promise = h; ate = refl; says = refl; leaves = refl }) (w .1), w .2, w .3)
 
 pub replay-can-be-offered : ReplayCanBeOffered
 replay-can-be-offered = Replaying.can-be-replayed

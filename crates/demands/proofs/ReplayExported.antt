@@ -11,9 +11,11 @@ use lib.ListN.{length}
 use borrow.Author.Tests.{eq-eqb, eqb-true}
 use Rattle.octets.specs.Choice.{both, by-test, both-true, true-both, not-so, pick-case, pick-so}
 use Rattle.octets.specs.Reading.{Octets}
-use Rattle.runs.specs.Run.{Run, Order}
+use Rattle.runs.specs.Run.{Run, Order, octs}
 use Rattle.runs.specs.Run.Event.{octet, silence}
 use Rattle.runs.specs.Run.Order.{trunk, forget}
+use Rattle.runs.specs.Offered.Offer.{call}
+use Rattle.runs.specs.Offered.Made.{feed, still, free}
 use Rattle.frames.specs.declared.Receiver.{Receiver}
 use Rattle.messages.specs.Slots as Messages
 use Rattle.rebuild.specs.declared.Key.{Key}
@@ -34,13 +36,13 @@ use Rattle.playback.specs.declared.Played.{Played}
 use Rattle.hitchbarley.specs.Trunk as Trunk
 use Rattle.hitchbarley.specs.Trunk.{Left, stateBy, stateOf, bar, inside, feedBar}
 use Rattle.hitchbarley.specs.Replay.{cameTo, replayLeft, Replays}
-use Rattle.hitchbarley.specs.Offering.Calling.{replayed as by-replay}
+use Rattle.hitchbarley.specs.Offering.Calling.{made, replayed as by-replay}
 use Rattle.hitchbarley.proofs.Demand.{replays-carried}
 use Rattle.hitchbarley.proofs.Kept.{feeding-shaped, stilling-shaped, forgotten-shaped}
 use Rattle.demands.specs.Words.{One, Broken}
 use Rattle.demands.specs.Exported.{Holding, BadState, Carried}
 use Rattle.demands.specs.Replay.{Whole, Arrays, Stopped, ByNumber}
-use Rattle.demands.specs.ReplayExported.{ReplayCall, ExportedReplay, ReplayIsLinked}
+use Rattle.demands.specs.ReplayExported.{ReplayCall, ExportedReplay, CallsAreLinked}
 use Rattle.demands.proofs.Exported.{differ, Judged, judged, not-loaded, held-one, four, Own, octets-own, own-next, own-same, to-bad, of-bad}
 use Rattle.demands.proofs.Exported.Judged.{other, none as no-state, some as state-there}
 use Rattle.demands.proofs.Replay.{is-60, is-59, contra, replay-numbers, replay-refused}
@@ -213,6 +215,14 @@ exported-replay state o report area r eaten reported state′ report′ area′ 
     replay-sixty state o report area r eaten reported state′ report′ area′ os y
     (λ q. not-so (sym a ∙ true-both _ _ (eq-eqb _ _ (q .1)) (eq-eqb _ _ (q .2)))) (rw a))
 
-pub replay-is-linked : ReplayIsLinked
-replay-is-linked state report area lent behind r eaten reported state′ report′ area′ k z b h =
-    by-replay (record { behind = behind; report = report; report′ = report′; number = r; reported = reported; ends = b; sixteen = k; sized = z; promise = h; says = refl })
+pub calls-are-linked : CallsAreLinked
+calls-are-linked =
+    record {
+      fed = λ p state report area piece run r eaten reported state′ report′ area′ k z y h w.
+          call (octs piece) run (made (feed piece (record { report = report; report′ = report′; number = r; reported = reported; sixteen = k; sized = z; promise = y; says = refl }))) w;
+      silent = λ p state report area run r reported state′ report′ k y h w.
+          call (trunk silence ∷ []) run (made (still (record { report = report; report′ = report′; number = r; reported = reported; sixteen = k; promise = y; says = refl; area = refl }))) w;
+      forgot = λ p state area i run r state′ y h w. call (forget i ∷ []) run (made (free i (record { number = r; promise = y; area = refl }))) w;
+      replayed = λ p state report area lent run behind r eaten reported state′ report′ area′ k z b y h w.
+          call lent run (by-replay (record { behind = behind; report = report; report′ = report′; number = r; reported = reported; ends = b; sixteen = k; sized = z; promise = y; says = refl })) w;
+    }

@@ -1,15 +1,16 @@
 -- The replay of a recorded trunk: its records, its numbers, what it does, and demand 3 of it, "cut at record borders: its reports are the collector's on the
 -- same run". Its contract is a field of `Contracts`, its one answer of `OneAnswer`. Each statement is proved in proofs/Replay, under its name in small letters.
-use Prim.Native.Nat.{ℕ, _*_, _≤_, _<_}
+use Prim.Native.Nat.{ℕ, _+_, _-_, _*_, _≤_, _<_}
 use mathlib.Core.Path.{_≡_}
 use mathlib.Core.Logic.{_↔_, _⊎_}
 use mathlib.Core.Bool.{true, false}
 use mathlib.Core.List.{List, [], _∷_, _++_}
-use lib.ListN.{length, take}
+use lib.ListN.{length, take, drop}
 use Rattle.octets.specs.Exact.{Exactly}
-use Rattle.runs.specs.Run.{Run}
+use Rattle.runs.specs.Run.{Run, ends}
 use Rattle.runs.specs.Run.Event.{octet, silence}
 use Rattle.runs.specs.Run.Order.{trunk, forget}
+use Rattle.runs.specs.Offered.{places, spoken}
 use Rattle.trunk.specs.Reading.{heldOf}
 use Rattle.trunk.specs.Demand.{reading}
 use Rattle.rebuild.specs.View.{keys}
@@ -23,14 +24,15 @@ use Rattle.playback.specs.Layout.{recordSize, recordOctets}
 use Rattle.playback.specs.Valid.{Valid, Bad, Behind}
 use Rattle.playback.specs.Reading.{Reads}
 use Rattle.playback.specs.Calls.{Plays}
-use Rattle.playback.specs.Offering.{Replaying, Replayed, OneByOne}
+use Rattle.playback.specs.Offering.{Replayed, OneByOne}
 use Rattle.playback.specs.declared.Played.{Played}
 use Rattle.demands.specs.Words.{Broken, Four}
 
 -- ---- the records: "four-octet records, no header: kind (0 octet, 1 silence, 2 forget), value, two zeros"
 abbrev pub RecordsAre : Type 0
 RecordsAre =
-    (recordOctets [] ≡ [])
+    (recordSize ≡ 4)
+    × (recordOctets [] ≡ [])
     × ((x : ℕ) (run : Run) → recordOctets (trunk (octet x) ∷ run) ≡ 0 ∷ x ∷ 0 ∷ 0 ∷ recordOctets run)
     × ((run : Run) → recordOctets (trunk silence ∷ run) ≡ 1 ∷ 0 ∷ 0 ∷ 0 ∷ recordOctets run)
     × ((i : ℕ) (run : Run) → recordOctets (forget i ∷ run) ≡ 2 ∷ i ∷ 0 ∷ 0 ∷ recordOctets run)
@@ -108,10 +110,12 @@ abbrev pub ReplayByPosition : Type 0
 ReplayByPosition = (c : Collector) (area : List ℕ) → Passes c → length area ≡ 65536 → (run : Run) (e : End)
     → Replayed (length (heldOf (c .receiver))) c area run e → e ≡ reading (rules keys bacnet) (c .receiver) (slotsOf c) area run
 
--- every replay that is made is among them: with records of any part of a run, and behind them whatever begins with no good record
+-- every replay that is made is among them, in front of every way of going on: with records of any part of the run, and behind them whatever begins with no
+-- good record; what was not eaten is offered again, and its report stands at its place
 abbrev pub ReplayAnyPart : Type 0
-ReplayAnyPart = (c : Collector) (report area : List ℕ) (lent : Run) (behind : List ℕ) (r : Played) (report′ area′ : List ℕ) → length report ≡ reportSize → Behind behind
-    → Plays c report area (recordOctets lent ++ behind) r report′ area′ → Replaying (c, area) lent (r .eaten) (told (r .reported) report′) (r .state, area′)
+ReplayAnyPart = (p : ℕ) (c : Collector) (report area : List ℕ) (lent run : Run) (behind : List ℕ) (r : Played) (report′ area′ : List ℕ) (e : End) → length report ≡ reportSize → Behind behind
+    → Plays c report area (recordOctets lent ++ behind) r report′ area′ → Replayed (p + places (r .eaten) lent) (r .state) area′ (drop (r .eaten) lent ++ run) e
+    → Replayed p c area (lent ++ run) (ends (spoken (p + places (r .eaten) lent - 1) (told (r .reported) report′) (e .reports)) (e .state) (e .slots) (e .area))
 
 -- and every run can be replayed
 abbrev pub ReplayCanBeOffered : Type 0

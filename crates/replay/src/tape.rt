@@ -5,6 +5,7 @@ use crate::player::Player;
 use listening::output;
 use words::fill;
 use words::one;
+use words::put;
 
 // Whole records: what a call leaves after a report is offered again. Each report eats a record, so no more calls than octets are needed.
 fn piece(
@@ -105,20 +106,28 @@ fn all(
     p
 }
 
+fn plural(n: usize, out: &mut [u8; 131072], at: usize) -> usize {
+    if n == 1 {
+        return put(out, at, b":");
+    }
+    put(out, at, b"s:")
+}
+
 // The octets behind the last whole record: how many and which.
 fn odd(book: &[u8], octets: &[u8], out: &mut [u8; 131072]) {
     let a = fill(
         book,
-        b"end: #1 odd octets:",
+        b"end: #1 odd octet",
         octets.len() as u64,
         0,
         0,
         out,
         0,
     );
-    let b = values::long::row(octets, out, a);
-    let c = one(10, out, b);
-    output::flush(c, out);
+    let b = plural(octets.len(), out, a);
+    let c = values::long::row(octets, out, b);
+    let d = one(10, out, c);
+    output::flush(d, out);
 }
 
 // The file's end.
