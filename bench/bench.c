@@ -1,7 +1,7 @@
-/* Runs one listener over a recording. Built twice for x86-64 Linux without a C library, once with the proved library and once
-   with -DPLAIN, so that all that is counted is the listener, this loop and the four functions at the end.
+/* Runs one listener over a recording. Built for x86-64 Linux without a C library: with the proved library, with it and -DREPLAYED (by hb_replay alone, the
+   recording being in its format already), and with -DPLAIN, so that all that is counted is the listener, this loop and the four functions at the end.
 
-     bench reports FILE PIECE      a line for each report: the octets eaten so far, the 16 octets, a hash of a completed message;
+     bench reports FILE PIECE      a line for each report: the octets and the records eaten so far, the 16 octets, a hash of a completed message;
                                    last a hash of the message area
      bench stack FILE PIECE        the largest stack that a call used, in octets
      bench sizes                   the size of the state
@@ -9,7 +9,7 @@
      bench run FILE PIECE RUNS [LESS]   feeds the first RUNS runs of octets (silences and forget orders end a run), the last LESS octets of the
                                    recording left out, and says nothing
 
-   PIECE is the most octets that a call is lent. */
+   PIECE is the most octets, or records, that a call is lent. A replay runs all of the recording, or with RUNS 0 nothing. */
 #ifdef PLAIN
 #include "plain.h"
 #else
@@ -22,7 +22,7 @@ enum { AREA = 65536, MOST = 1 << 18, STACK = 1 << 18 };
 
 static uint8_t report[16], area[AREA], octets[MOST], file[4 * MOST];
 static struct { uint32_t at; uint8_t kind, value; } events[MOST]; /* each after so many octets */
-static size_t octet_count, event_count;
+static size_t octet_count, event_count, record_count;
 
 /* ---- the listener */
 
@@ -92,6 +92,7 @@ static void load(const char *path)
         leave(2);
     }
     while ((got = call(0, fd, (long)file + n, (long)sizeof file - n)) > 0) n += got;
+    record_count = (size_t)n / 4;
     for (long i = 0; i + 4 <= n; i += 4) {
         if (file[i] == 0)
             octets[octet_count++] = file[i + 1];
@@ -114,10 +115,12 @@ static uint32_t hash(const uint8_t *s, size_t n)
     return h;
 }
 
-static void tell(size_t eaten)
+static void tell(size_t eaten, size_t records)
 {
     if (!telling) return;
     say_number(eaten, 10, 1);
+    say(" ");
+    say_number(records, 10, 1);
     for (int i = 0; i < 16; i++) {
         say(" ");
         say_number(report[i], 16, 2);
@@ -129,19 +132,37 @@ static void tell(size_t eaten)
     say("\n");
 }
 
-static void feed_run(size_t from, size_t to, size_t piece)
+static size_t piece, runs, less;
+
+#ifdef REPLAYED
+static void all(void)
+{
+    size_t from = 0, heard = 0;
+    fresh();
+    while (runs && from < record_count) {
+        size_t end = piece < record_count - from ? from + piece : record_count;
+        while (from < end) {
+            int reported = 0;
+            size_t eaten = replay(file + 4 * from, end - from, &reported);
+            if (telling)
+                for (size_t i = 0; i < eaten; i++) heard += file[4 * (from + i)] == 0;
+            from += eaten;
+            if (reported) tell(heard, from);
+        }
+    }
+}
+#else
+static void feed_run(size_t from, size_t to, size_t passed)
 {
     while (from < to) {
         size_t end = piece < to - from ? from + piece : to;
         while (from < end) {
             int reported = 0;
             from += feed(octets + from, end - from, &reported);
-            if (reported) tell(from);
+            if (reported) tell(from, from + passed);
         }
     }
 }
-
-static size_t piece, runs, less;
 
 static void all(void)
 {
@@ -149,15 +170,16 @@ static void all(void)
     fresh();
     for (size_t i = 0; i < runs && i <= event_count; i++) {
         size_t to = i < event_count ? events[i].at : octet_count - less;
-        feed_run(from, to, piece);
+        feed_run(from, to, i);
         from = to;
         if (i == event_count) return;
         if (events[i].kind == 2)
             forget(events[i].value);
         else if (silence())
-            tell(from);
+            tell(from, from + i + 1);
     }
 }
+#endif
 
 /* ---- the stack: painted, used, read back */
 

@@ -1,6 +1,17 @@
 /* The proved listener behind the names that bench.c calls: the library's calls on lent areas. */
 static uint8_t state[HB_STATE];
 static void fresh(void) { hb_fresh(state, HB_STATE); }
+#ifdef REPLAYED
+static void leave(int status);
+static size_t replay(const uint8_t *records, size_t n, int *reported)
+{
+    size_t eaten;
+    uint8_t said;
+    if (hb_replay(state, HB_STATE, records, HB_RECORD * n, report, 16, area, AREA, &eaten, &said)) leave(3);
+    *reported = said;
+    return eaten;
+}
+#else
 static size_t feed(const uint8_t *s, size_t n, int *reported)
 {
     size_t eaten;
@@ -16,3 +27,4 @@ static int silence(void)
     return said;
 }
 static void forget(uint8_t slot) { hb_forget(state, HB_STATE, slot); }
+#endif

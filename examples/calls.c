@@ -108,6 +108,60 @@ static void trunk(void)
     tell("a message in two segments");
 }
 
+/* ---- a recorded trunk ---- */
+
+/* One call with so many octets of records: its number, the records eaten, and its report or none. */
+static void replayed(const uint8_t *records, size_t n, uint8_t number, size_t records_eaten, const char *reports)
+{
+    size_t eaten;
+    uint8_t reported;
+    memset(report, 0xEE, HB_REPORT);
+    want(hb_replay(state, HB_STATE, records, n, report, HB_REPORT, area, HB_AREA, &eaten, &reported) == number);
+    want(eaten == records_eaten && reported == (reports != NULL));
+    want_octets(report, HB_REPORT, of(reports ? reports : "EE EE EE EE EE EE EE EE EE EE EE EE EE EE EE EE"));
+}
+
+static void recorded(void)
+{
+    /* two silences with a forget that is 56 between them, a poll for master of 004, the front of another that a silence cuts off, a bad record */
+    static const char *tape = "01000000 02040000 01000000 00550000 00FF0000 00010000 00020000 00010000 00000000 00000000 00F50000"
+                              "00550000 00FF0000 00010000 01000000 03000000";
+    struct octets r = of(tape);
+    uint8_t before[HB_STATE], bad[][HB_RECORD] = {{3, 0, 0, 0}, {255, 0, 0, 0}, {0, 0x55, 1, 0}, {0, 0x55, 0, 1}, {1, 1, 0, 0}, {2, 0, 0, 1}};
+    size_t eaten;
+    uint8_t reported;
+
+    want(hb_fresh(state, HB_STATE) == 0);
+    replayed(r.s, r.n, 0, 11, "01 00 01 02 01 00 00 00 00 00 00 00 00 00 00 00");
+    replayed(r.s + 11 * HB_RECORD, r.n - 11 * HB_RECORD, 0, 4, "02 04 00 00 00 00 00 00 00 00 00 00 00 00 00 00");
+    replayed(r.s + 15 * HB_RECORD, HB_RECORD, HB_BAD_RECORD, 0, NULL);
+    replayed(r.s + 15 * HB_RECORD, HB_RECORD, HB_BAD_RECORD, 0, NULL);
+    replayed(r.s, 0, 0, 0, NULL);
+    for (size_t i = 0; i < sizeof bad / sizeof *bad; i++) replayed(bad[i], HB_RECORD, HB_BAD_RECORD, 0, NULL);
+
+    /* 68: nothing runs, also where the first records are good */
+    memcpy(before, state, HB_STATE);
+    for (size_t odd = 1; odd < HB_RECORD; odd++) replayed(r.s, 3 * HB_RECORD + odd, HB_ODD, 0, NULL);
+    want(memcmp(before, state, HB_STATE) == 0);
+
+    /* 67: the records before the bad one stand: the header that they begin is cut off by the next silence */
+    {
+        struct octets cut = of("00550000 00FF0000 01000100");
+        replayed(cut.s, cut.n, HB_BAD_RECORD, 2, NULL);
+        want(memcmp(before, state, HB_STATE) != 0);
+        replayed(r.s, HB_RECORD, 0, 1, "02 04 00 00 00 00 00 00 00 00 00 00 00 00 00 00");
+    }
+
+    /* 60, then 59, before 68 and 67 */
+    want(hb_replay(state, HB_STATE - 1, r.s, 1, report, HB_REPORT, area, HB_AREA, &eaten, &reported) == HB_NO_AREA && eaten == 0 && reported == 0);
+    want(hb_replay(state, HB_STATE, r.s, 1, report, HB_REPORT - 1, area, HB_AREA, &eaten, &reported) == HB_NO_AREA && eaten == 0 && reported == 0);
+    want(hb_replay(state, HB_STATE, r.s, 1, report, HB_REPORT, area, HB_AREA - 1, &eaten, &reported) == HB_NO_AREA && eaten == 0 && reported == 0);
+    memset(state, 0xFF, HB_STATE);
+    replayed(r.s, 1, HB_NO_STATE, 0, NULL);
+    replayed(bad[0], HB_RECORD, HB_NO_STATE, 0, NULL);
+    tell("hb_replay");
+}
+
 /* ---- check sums ---- */
 
 static void sums(void)
@@ -292,6 +346,7 @@ static void services_tried(void)
 int main(void)
 {
     trunk();
+    recorded();
     sums();
     headers_read(hb_npdu_read, npdus, sizeof npdus / sizeof *npdus, "02 00", HB_NPDU_VERSION);
     tell("hb_npdu_read");

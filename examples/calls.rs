@@ -35,6 +35,43 @@ fn trunk() -> bool {
     }
 }
 
+// One call with records: its number, the records eaten, whether it reported.
+fn replay(state: &mut [u8], area: &mut [u8], report: &mut [u8], records: &[u8]) -> (u8, usize, u8) {
+    let (mut eaten, mut reported) = (99, 99);
+    let number = unsafe {
+        hb_replay(
+            state.as_mut_ptr(),
+            state.len(),
+            records.as_ptr(),
+            records.len(),
+            report.as_mut_ptr(),
+            report.len(),
+            area.as_mut_ptr(),
+            area.len(),
+            &mut eaten,
+            &mut reported,
+        )
+    };
+    (number, eaten, reported)
+}
+
+// A recorded poll for master behind a forget that is 56, then a bad record: a report in the middle, the rest offered again; each refusal.
+fn recorded() -> bool {
+    let (mut state, mut area, mut report) = ([0u8; HB_STATE], vec![0u8; HB_AREA], [0u8; HB_REPORT]);
+    let frame = of("55 FF 01 02 01 00 00 F5");
+    let mut tape = vec![2, 4, 0, 0];
+    tape.extend(frame.iter().flat_map(|x| [0, *x, 0, 0]));
+    tape.extend([1, 0, 0, 0, 3, 0, 0, 0]);
+    let fresh = unsafe { hb_fresh(state.as_mut_ptr(), state.len()) };
+    fresh == 0
+        && replay(&mut state, &mut area, &mut report, &tape) == (0, 9, 1)
+        && report[..] == of("01 00 01 02 01 00 00 00 00 00 00 00 00 00 00 00")[..]
+        && replay(&mut state, &mut area, &mut report, &tape[9 * HB_RECORD..]) == (HB_BAD_RECORD, 1, 0)
+        && replay(&mut state, &mut area, &mut report, &tape[..HB_RECORD + 1]) == (HB_ODD, 0, 0)
+        && replay(&mut state, &mut area, &mut report[1..], &tape) == (HB_NO_AREA, 0, 0)
+        && replay(&mut [0xFF; HB_STATE], &mut area, &mut report, &tape) == (HB_NO_STATE, 0, 0)
+}
+
 fn sums() -> bool {
     let (head, data) = (of("00 10 05 00 00 8C"), of("01 22 30 10 BD"));
     unsafe {
@@ -83,6 +120,7 @@ fn params() -> bool {
 fn main() {
     let npdu = "00 01 00 00 00 FF FF 00 00 00 00 00 00 00 00 00 00 00 00 00 00 00 00 00 00 FF 00 00 00";
     let good = trunk()
+        && recorded()
         && sums()
         && header(hb_npdu_read, hb_npdu_write, "01 20 FF FF 00 FF 10 08", 6, npdu)
         && header(hb_apdu_read, hb_apdu_write, "02 03 00 0C 0C 00 00 00 01 19 55", 4, "00 00 00 01 00 00 03 00 00 00 0C 00")

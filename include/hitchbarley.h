@@ -6,12 +6,14 @@
    nothing is allocated, so calls for several trunks may be made at once, each with areas of its own. A length of 0 with any pointer is fine, but the pointer
    is not null by the language's rules: pass the address of any octet. (A null pointer with length 0 was tried in 18 calls and did no harm; nothing promises it.)
 
-   Numbers. Every call but the check sums answers 0 or the number of a refusal. On a refusal no area changes, and every number given back is 0. So after 59 or
-   60 *eaten is 0: a loop that offers the rest of its piece again must look at the answer, or it never ends. 60 is a mistake in the program, an area of another
+   Numbers. Every call but the check sums answers 0 or the number of a refusal. On a refusal no area changes, and every number given back is 0. So after 59,
+   60 and 68 *eaten is 0, and so it is after a 67 that is offered again: a loop that offers the rest of its piece must look at the answer, or it never ends. 60 is a mistake in the program, an area of another
    size. 59 is a state area that was not made by hb_fresh or was written by somebody else: make it anew by hb_fresh; what was half received is lost, and only that.
+   hb_replay's 67 is the one exception: the records before the bad one were eaten, state and message area are as after them, *eaten is their number; the report
+   area is as it was and *reported is 0.
 
-   Stack. Measured, in octets: hb_feed 3,904; hb_service_read 3,264; hb_items_list 3,008; hb_item_step 2,992; hb_items_count 2,976; hb_item_next 2,944;
-   hb_service_write 1,200; every other call below 500 (docs/PERFORMANCE.md).
+   Stack. Measured, in octets: hb_replay 4,144; hb_feed 3,840; hb_service_read 3,264; hb_items_list 3,008; hb_item_step 2,992; hb_items_count 2,976;
+   hb_item_next 2,944; hb_service_write 1,200; every other call below 500 (docs/PERFORMANCE.md).
 
    What each call promises is proved; its statement stands in crates/hitchbarley/src, with the definitions in specs. */
 #ifndef HITCHBARLEY_H
@@ -19,7 +21,7 @@
 #include <stddef.h>
 #include <stdint.h>
 
-#define HB_VERSION "1.1"
+#define HB_VERSION "1.2"
 #define HB_KIT "rattle-kit-5" /* the release that this version is proved and compiled with */
 
 #ifdef __cplusplus
@@ -35,8 +37,10 @@ enum {
     HB_APDU = 12,    /* octets of an APDU header's record */
     HB_ITEM = 12,    /* octets of an item's record */
     HB_SERVICE = 26, /* octets of a service's record */
+    HB_RECORD = 4,   /* octets of a recorded trunk's record */
 
-    /* where the last frame stands in the state area, after a report of kind 1 or 3 to 7 and until the next hb_feed */
+    /* where the last frame stands in the state area, after a report of kind 1 or 3 to 7 and until the next hb_feed or
+       hb_replay */
     HB_HEAD = 3, /* its type, destination, source, and the length of its data (2 octets, high first) at HB_HEAD + 3 */
     HB_FRAME = 9 /* its data: in a frame of type 5 or 6 the network header, and behind that the APDU */
 };
@@ -95,7 +99,11 @@ enum {
                           holding over 16,384; two open slots of one key */
     HB_NO_AREA = 60,   /* a state, report, message or record area of another size */
     HB_SMALL = 61,     /* output area smaller than the result */
-    HB_NO_READING = 62 /* records that are the reading of no octets */
+    HB_NO_READING = 62, /* records that are the reading of no octets */
+
+    /* recorded trunks */
+    HB_BAD_RECORD = 67, /* kind above 2, third or fourth octet not 0, silence with a value */
+    HB_ODD = 68         /* records that are no multiple of four octets */
 };
 
 /* ---- a trunk ---- */
@@ -129,6 +137,14 @@ uint8_t hb_silence(uint8_t *state, size_t state_len, uint8_t *report, size_t rep
 
 /* Frees a slot: 0, 60, 59 or 56. */
 uint8_t hb_forget(uint8_t *state, size_t state_len, uint8_t slot);
+
+/* Replays a recorded trunk: records of four octets, kind (0 octet, 1 silence, 2 forget), value (a silence's is 0), two zeros. Eats records through the first
+   that causes a report, else up to a bad one, else all: 0, 60, 59, 68 or 67. *eaten counts records, not octets; *reported is 1 where a report was written.
+   Offer the rest again, from HB_RECORD * *eaten on. A piece that is no multiple of four octets is 68, before any of it runs. A bad record is 67 when it is
+   reached, and again where it is offered again. A forget record that hb_forget would answer 56 is eaten, and the replay goes on. A run may be fed and
+   replayed by turns: both are ways of making the same calls. */
+uint8_t hb_replay(uint8_t *state, size_t state_len, const uint8_t *records, size_t records_len, uint8_t *report, size_t report_len, uint8_t *area, size_t area_len,
+    size_t *eaten, uint8_t *reported);
 
 /* ---- check sums ---- */
 

@@ -7,7 +7,7 @@
 //!     rustc -L target/staticlib -l static=hitchbarley
 #![allow(dead_code)]
 
-pub const HB_VERSION: &str = "1.1";
+pub const HB_VERSION: &str = "1.2";
 /// the release that this version is proved and compiled with
 pub const HB_KIT: &str = "rattle-kit-5";
 
@@ -27,6 +27,8 @@ pub const HB_APDU: usize = 12;
 pub const HB_ITEM: usize = 12;
 /// octets of a service's record
 pub const HB_SERVICE: usize = 26;
+/// octets of a recorded trunk's record
+pub const HB_RECORD: usize = 4;
 /// where the last frame's type, destination, source and data length stand in the state area, after a report of kind 1 or 3 to 7
 pub const HB_HEAD: usize = 3;
 /// where its data stand
@@ -125,6 +127,12 @@ pub const HB_SMALL: u8 = 61;
 /// records that are the reading of no octets
 pub const HB_NO_READING: u8 = 62;
 
+// recorded trunks
+/// kind above 2, third or fourth octet not 0, silence with a value; the one refusal that changes something: the records before it are eaten and stand
+pub const HB_BAD_RECORD: u8 = 67;
+/// records that are no multiple of four octets
+pub const HB_ODD: u8 = 68;
+
 unsafe extern "C" {
     pub fn hb_fresh(state: *mut u8, state_len: usize) -> u8;
     pub fn hb_feed(
@@ -141,6 +149,18 @@ unsafe extern "C" {
     ) -> u8;
     pub fn hb_silence(state: *mut u8, state_len: usize, report: *mut u8, report_len: usize, reported: *mut u8) -> u8;
     pub fn hb_forget(state: *mut u8, state_len: usize, slot: u8) -> u8;
+    pub fn hb_replay(
+        state: *mut u8,
+        state_len: usize,
+        records: *const u8,
+        records_len: usize,
+        report: *mut u8,
+        report_len: usize,
+        area: *mut u8,
+        area_len: usize,
+        eaten: *mut usize,
+        reported: *mut u8,
+    ) -> u8;
     pub fn hb_header_check(head: *const u8, head_len: usize) -> u8;
     pub fn hb_data_check(payload: *const u8, payload_len: usize) -> u16;
     pub fn hb_header_run(reg: u8, part: *const u8, part_len: usize) -> u8;

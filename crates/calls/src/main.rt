@@ -14,11 +14,11 @@ mod trunk;
 
 use trunk::Sizes;
 
-// The number of the line's name: 0 to 10 are asked.rt's, 11 to 15 checks.rt's, 16 to 25 trunk.rt's; above where it is none of these.
+// The number of the line's name: 0 to 10 are asked.rt's, 11 to 15 checks.rt's, 16 to 26 trunk.rt's; above where it is none of these.
 fn name(s: &[u8]) -> u8 {
     text::index(
         s,
-        b"npdu-read npdu-write apdu-read apdu-write items-count items-list item-next item-step items-write service-write service-read header-check header-run data-check data-run receiver fresh state area silence forget feed frame show-state show-area area-at",
+        b"npdu-read npdu-write apdu-read apdu-write items-count items-list item-next item-step items-write service-write service-read header-check header-run data-check data-run receiver fresh state area silence forget feed frame show-state show-area area-at replay",
     )
 }
 
@@ -32,7 +32,7 @@ fn answer(k: u8, s: &[u8], z: Sizes, state: &mut [u8; 600], area: &mut [u8; 6553
         checks::line(k, s);
         return z;
     }
-    if k < 26 {
+    if k < 27 {
         return trunk::line(k, s, z, state, area);
     }
     show::text(b"  ?\n");

@@ -2,6 +2,7 @@
 use crate::areas;
 use crate::print;
 use crate::text;
+use hitchbarley::replay_calls;
 use hitchbarley::sum_calls;
 use hitchbarley::trunk_calls;
 
@@ -56,6 +57,13 @@ fn reported_end(reported: u8, report: &[u8]) {
     print::area(b"  report", report);
 }
 
+// What a piece of octets or of records answered.
+fn eaten_end(r: u8, eaten: usize, reported: u8, report: &[u8]) {
+    print::start(r);
+    print::named(b" eaten ", eaten);
+    reported_end(reported, report);
+}
+
 // A piece, with a report area of this size.
 fn fed(size: usize, piece: &[u8], state: &mut [u8], area: &mut [u8]) {
     let mut report = areas::output();
@@ -69,9 +77,23 @@ fn fed(size: usize, piece: &[u8], state: &mut [u8], area: &mut [u8]) {
         &mut eaten,
         &mut reported,
     );
-    print::start(r);
-    print::named(b" eaten ", eaten);
-    reported_end(reported, show::part(&report, 0, size));
+    eaten_end(r, eaten, reported, show::part(&report, 0, size));
+}
+
+// Records, with a report area of this size.
+fn replayed(size: usize, records: &[u8], state: &mut [u8], area: &mut [u8]) {
+    let mut report = areas::output();
+    let mut eaten: usize = 99;
+    let mut reported: u8 = 99;
+    let r = replay_calls::hb_replay(
+        state,
+        records,
+        text::front(&mut report, size),
+        area,
+        &mut eaten,
+        &mut reported,
+    );
+    eaten_end(r, eaten, reported, show::part(&report, 0, size));
 }
 
 // A frame's front: preamble, header and its check.
@@ -124,6 +146,13 @@ fn feed(k: u8, s: &[u8], state: &mut [u8], area: &mut [u8]) {
     fed(text::first(s), show::part(&octets, 0, n), state, area);
 }
 
+// replay
+fn replay(s: &[u8], state: &mut [u8], area: &mut [u8]) {
+    let mut octets = areas::input();
+    let n = text::group(s, &mut octets);
+    replayed(text::first(s), show::part(&octets, 0, n), state, area);
+}
+
 // silence
 fn silence(size: usize, state: &mut [u8]) {
     let mut report = areas::output();
@@ -161,6 +190,7 @@ fn called(k: u8, s: &[u8], state: &mut [u8], area: &mut [u8]) {
         19 => silence(text::first(s), state),
         20 => forget(text::first(s), state),
         21 | 22 => feed(k, s, state, area),
+        26 => replay(s, state, area),
         _ => shown(k, s, state, area),
     }
 }

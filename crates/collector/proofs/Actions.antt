@@ -5,9 +5,10 @@ use mathlib.Core.Bool.{Bool, true, false}
 use mathlib.Core.List.{List}
 use mathlib.Core.Option.{Option, none, some}
 use native.Mathlib.Omega.{arith}
-use lib.Dec.{T}
+use lib.Dec.{T, eqb}
 use lib.ListN.{length, take, drop}
-use Rattle.octets.specs.Choice.{given-true, given-false}
+use borrow.Author.Tests.{eqb-true, eqb-false}
+use Rattle.octets.specs.Choice.{given-true, given-false, by-test, impossible}
 use Rattle.octets.specs.Reading.{oct}
 use Rattle.npdu.specs.Reading.{readNpdu}
 use Rattle.npdu.specs.declared.Reading.{Reading}
@@ -39,7 +40,7 @@ use Rattle.reports.specs.declared.Report.{Report}
 use Rattle.collector.specs.Heard.{heardOf, Route, routeOf, partsOf}
 use Rattle.collector.specs.Frame.{Content, segmentFrom, segmentIn, plainReport, stepReport, apduContent, npduContent, contentOf, contents, bacnet}
 use Rattle.collector.specs.Frame.Content.{other, refuses, network, refusesBehind, message}
-use Rattle.collector.specs.Acting.{acting, Acted, Kept, Named}
+use Rattle.collector.specs.Acting.{acting, carrying, Acted, ActedAlone, Kept, Named}
 use Rattle.collector.specs.declared.heard.Heard.{Heard}
 use Rattle.collector.specs.declared.heard.Parts.{Parts}
 use Rattle.collector.proofs.Content.{content-5, content-6, content-other, npdu-refused, npdu-network, npdu-apdu, apdu-refused, apdu-good, part-rest}
@@ -131,6 +132,21 @@ module _ (w : Heard) (payload : List ℕ) (t : Slots) (area : List ℕ) {report 
   pub frame-other : (w .frame .kind ≡ 5 → ⊥) → (w .frame .kind ≡ 6 → ⊥) → {r : Report} → r ≡ otherFrame (w .frame) (length payload) → report ≡ reportOctets r
       → Acted (acting w (contentOf w payload) (view t) area) t report area
   frame-other n5 n6 q h = acted-as w (view t) area (content-other w payload n5 n6) (acted-plain w (other (length payload)) t area refl (h ∙ ap reportOctets q))
+
+-- the same by what the code asks: whether the frame carries a network header
+module _ (w : Heard) (payload : List ℕ) {report : List ℕ} where
+  pub frame-carried : carrying w ≡ true → (t : Slots) (area : List ℕ) {u : Slots} {area′ : List ℕ}
+      → Acted (acting w (npduContent payload (readNpdu payload)) (view t) area) u report area′ → Acted (acting w (contentOf w payload) (view t) area) u report area′
+  frame-carried k t area h =
+      by-test (eqb (w .frame .kind) 5)
+      (λ a. frame-5 w payload t area h (eqb-true (w .frame .kind) 5 a))
+      (λ a. frame-6 w payload t area h (eqb-false (w .frame .kind) 5 a) (eqb-true (w .frame .kind) 6 (rw a at k)))
+
+  pub frame-uncarried : carrying w ≡ false → {r : Report} → r ≡ otherFrame (w .frame) (length payload) → report ≡ reportOctets r → ActedAlone w (contentOf w payload) report
+  frame-uncarried k q h t area =
+      by-test (eqb (w .frame .kind) 5)
+      (λ a. impossible (let z : true ≡ false = rw a at k in cc))
+      (λ a. frame-other w payload t area (eqb-false (w .frame .kind) 5 a) (eqb-false (w .frame .kind) 6 (rw a at k)) q h)
 
 -- ---- the rules that demand 3 is stated over
 pub acts-frame : (head payload : List ℕ) (s : List (Messages.Slot Key)) (area : List ℕ)

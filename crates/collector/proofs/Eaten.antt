@@ -18,12 +18,13 @@ use Rattle.recordings.specs.Frames.{rules}
 use Rattle.reports.specs.Layout.{reportSize}
 use Rattle.collector.specs.Heard.{heardOf}
 use Rattle.collector.specs.Frame.{contentOf, bacnet, damageOctets}
-use Rattle.collector.specs.Acting.{acting, Acted, Kept}
+use Rattle.collector.specs.Acting.{acting, carrying, Acted, ActedAlone}
 use Rattle.collector.specs.Calls.{passing, Tells, Feeds}
 use Rattle.collector.specs.Lent.{over, Eats, unfedBy}
 use Rattle.collector.specs.declared.Fed.{Fed}
-use Rattle.collector.specs.declared.frame.Done.{Done}
+use Rattle.collector.specs.declared.heard.Heard.{Heard}
 use Rattle.collector.specs.declared.lent.Ate.{Ate}
+use Rattle.collector.proofs.Actions.{moved-slots}
 use Rattle.collector.proofs.Answers.{feeds-line, feeds-area, feeds-slots, feeds-on, tells-quiet, tells-damage, tells-frame, data-fits, in-store, payload-fits, eats-not}
 
 module _ (l : Link) (t : Slots) (store report area piece : List ℕ) where
@@ -50,14 +51,24 @@ module _ (l : Link) (t : Slots) (store report area piece : List ℕ) where
           → Eats l t store report area piece (record { refused = f .refused; eaten = f .eaten; reported = true; moved = false; link = f .link; slots = t }) store′ report′ area
       eats-damage {d} o h = record { feeds = feeds (tells-damage (Frames.fedOver f store′) t report area d o h); kept = λ x. refl }
 
-      pub eats-frame : {m : ℕ} (d : Done) {report′ area′ : List ℕ} → f .outcome ≡ Frame → m ≡ lengthOf (f .link .head)
-          → (let w = heardOf (f .link .head) in Acted (acting w (contentOf w (take m store′)) (view t) area) (d .slots) report′ area′ × Kept (d .moved) t (d .slots))
-          → Eats l t store report area piece (record { refused = f .refused; eaten = f .eaten; reported = true; moved = d .moved; link = f .link; slots = d .slots }) store′ report′ area′
-      eats-frame d o q h = record { feeds = feeds (tells-frame (Frames.fedOver f store′) t report area o (rw q at (h .0))); kept = h .1 }
+      -- a good frame: of type 5 or 6 the slots may be others, of another type they are those that were there
+      pub eats-carried : {m : ℕ} (u : Slots) {report′ area′ : List ℕ} → f .outcome ≡ Frame → m ≡ lengthOf (f .link .head)
+          → (let w = heardOf (f .link .head) in Acted (acting w (contentOf w (take m store′)) (view t) area) u report′ area′)
+          → Eats l t store report area piece (record { refused = f .refused; eaten = f .eaten; reported = true; moved = true; link = f .link; slots = u }) store′ report′ area′
+      eats-carried u o q h = record { feeds = feeds (tells-frame (Frames.fedOver f store′) t report area o (rw q at h)); kept = moved-slots }
+
+      pub eats-other : {m : ℕ} {report′ : List ℕ} → f .outcome ≡ Frame → m ≡ lengthOf (f .link .head)
+          → (let w = heardOf (f .link .head) in ActedAlone w (contentOf w (take m store′)) report′)
+          → Eats l t store report area piece (record { refused = f .refused; eaten = f .eaten; reported = true; moved = false; link = f .link; slots = t }) store′ report′ area
+      eats-other o q h = record { feeds = feeds (tells-frame (Frames.fedOver f store′) t report area o (rw q at (h t area))); kept = λ x. refl }
 
 -- slots that were judged sound
 pub fair-slots : (t : Slots) {b : Bool} → b ≡ passing (view t) → not b ≡ false → passing (view t) ≡ true
 fair-slots t {b} e n = sym e ∙ not-false b n
+
+-- what the code was told of a frame's type
+pub carried : (w : Heard) {b c : Bool} → b ≡ carrying w → b ≡ c → carrying w ≡ c
+carried w e h = sym e ∙ h
 
 -- a good frame's data lie in the store, and are at most 501 octets
 module _ (l : Link) (store piece : List ℕ) (f : Ran) (store′ : List ℕ) {m : ℕ} (g : Frames.fedOver f store′ ≡ feedOf (Frames.over l store) piece) (o : f .outcome ≡ Frame) (q : m ≡ lengthOf (f .link .head)) where

@@ -11,6 +11,7 @@ use rebuild::Step;
 use reports::Frame;
 use reports::Report;
 ghost use mathlib.Core.Path.{_≡_};
+ghost use mathlib.Core.Bool.{true, false};
 ghost use Prim.Native.Nat.{_≤_};
 ghost use lib.ListN.{length};
 ghost use Rattle.npdu.specs.Reading.{readNpdu};
@@ -21,7 +22,7 @@ ghost use Rattle.reports.specs.Layout.{reportSize, reportOctets};
 ghost use Rattle.reports.specs.Kinds.{damaged, refusal};
 ghost use Rattle.collector.specs.Heard.{heardOf};
 ghost use Rattle.collector.specs.Frame.{Content, byTags, stepReport, npduContent, apduContent, contentOf};
-ghost use Rattle.collector.specs.Acting.{acting, Named, Segmented, Acted, ActedBehind, SaidBehind, Kept, Lent};
+ghost use Rattle.collector.specs.Acting.{acting, carrying, Carries, Named, Segmented, Acted, ActedBehind, ActedAlone, SaidBehind, Lent};
 
 // Kind 2: damage.
 pub fn put_damage(out: &mut [u8], n: u8)
@@ -171,41 +172,39 @@ fn act_npdu(w: Heard, payload: &[u8], slots: Slots, out: &mut [u8], area: &mut [
     act_apdu(w, &payload[next..], slots, out, area)
 }
 
-// What a good frame leaves: whether the slots may have moved, and the slots.
-pub struct Done {
-    pub moved: bool,
-    pub slots: Slots,
+// Whether a good frame carries a network header. Slots move by such a frame alone.
+pub fn carries(head: [u8; 5]) -> bool
+    ensures { λ r. ⌜ r ≡ carrying (heardOf head) ⌝ }
+{
+    if head[0] == 5 {
+        return true;
+    }
+    head[0] == 6
 }
 
-// A good frame: its head and its data. Slots move by a frame of type 5 or 6 alone.
-pub fn act(head: [u8; 5], payload: &[u8], slots: Slots, out: &mut [u8], area: &mut [u8]) -> Done
-    requires { ⌜ Lent (now out) slots (now area) × (length (now payload) ≤ 501) ⌝ }
-    ensures { λ r. ⌜ Acted (acting (heardOf head) (contentOf (heardOf head) (now (payload .entry))) (view slots) (now (area .entry))) (r .slots) (now (out .exit)) (now (area .exit)) × Kept (r .moved) slots (r .slots) ⌝ }
+// A good frame of type 5 or 6: its head and its data.
+pub fn act(head: [u8; 5], payload: &[u8], slots: Slots, out: &mut [u8], area: &mut [u8]) -> Slots
+    requires { ⌜ Carries true head (now payload) × Lent (now out) slots (now area) ⌝ }
+    ensures { λ r. ⌜ Acted (acting (heardOf head) (contentOf (heardOf head) (now (payload .entry))) (view slots) (now (area .entry))) r (now (out .exit)) (now (area .exit)) ⌝ }
 {
-    let kind = head[0];
     let frame = Frame {
-        kind,
+        kind: head[0],
         destination: head[1],
         source: head[2],
     };
     let w = Heard { frame };
-    if kind == 5 {
-        let later = act_npdu(w, payload, slots, out, area);
-        return Done {
-            moved: true,
-            slots: later,
-        };
-    }
-    if kind == 6 {
-        let later = act_npdu(w, payload, slots, out, area);
-        return Done {
-            moved: true,
-            slots: later,
-        };
-    }
+    act_npdu(w, payload, slots, out, area)
+}
+
+// A good frame of another type, whatever slots and message area are.
+pub fn put_other(head: [u8; 5], payload: &[u8], out: &mut [u8])
+    requires { ⌜ Carries false head (now payload) × (length (now out) ≡ reportSize) ⌝ }
+    ensures { λ _. ⌜ ActedAlone (heardOf head) (contentOf (heardOf head) (now (payload .entry))) (now (out .exit)) ⌝ }
+{
+    let frame = Frame {
+        kind: head[0],
+        destination: head[1],
+        source: head[2],
+    };
     reports::put(Report::other_frame(frame, payload.len() as u32), out);
-    Done {
-        moved: false,
-        slots,
-    }
 }

@@ -94,13 +94,23 @@ pub fn feed(
         Outcome::Frame => {
             let head = link.head;
             let n = frames::length_of(head) as usize;
-            let d = frame::act(head, &store[..n], slots, report, area);
-            let slots = d.slots;
+            if frame::carries(head) {
+                let slots = frame::act(head, &store[..n], slots, report, area);
+                return Ate {
+                    refused,
+                    eaten,
+                    reported: true,
+                    moved: true,
+                    link,
+                    slots,
+                };
+            }
+            frame::put_other(head, &store[..n], report);
             Ate {
                 refused,
                 eaten,
                 reported: true,
-                moved: d.moved,
+                moved: false,
                 link,
                 slots,
             }

@@ -1,5 +1,5 @@
 // The whole box: receiver and four slots by value; feed, silence, forget; reports of 16 octets.
-mod frame;
+pub mod frame;
 mod heard;
 pub mod lent;
 

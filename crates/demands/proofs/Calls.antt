@@ -23,6 +23,9 @@ use Rattle.collector.specs.declared.Fed.{Fed}
 use Rattle.collector.specs.declared.Fell.{Fell}
 use Rattle.collector.specs.declared.Forgot.{Forgot}
 use Rattle.collector.proofs.Alike.{feeds-one, stills-one, forgets-one, stateOf, tells, falls, forgotBy, forgets}
+use Rattle.playback.specs.Calls.{playing, Plays}
+use Rattle.playback.specs.declared.Played.{Played}
+use Rattle.playback.proofs.Alike.{plays-one, playedBy, comes}
 use Rattle.reader.specs.declared.Reader.{Reader}
 use denote.Ref.{RefT}
 use Rattle.demands.specs.Words.{One}
@@ -97,6 +100,15 @@ fell c report =
 forgot : (c : Collector) (s : ℕ) → One Forgot (λ r. Forgets c s r)
 forgot c s = record { answer = forgotBy c s; allowed = forgets c s; same = λ r r′ a b. forgets-one c s a b }
 
+replayed : (c : Collector) (records report area : List ℕ) → One (Played × List ℕ × List ℕ) (λ x. Plays c report area records (x .0) (x .1) (x .2))
+replayed c o report area =
+    let w = playing c report area o in
+    record {
+      answer = (playedBy w, written (w .left .said) report, w .left .area);
+      allowed = comes w report;
+      same = λ x y a b. (let q = plays-one c report area o a b in λ i. (q .0 i, q .1 i, q .2 i));
+    }
+
 pub one-answer : OneAnswer
 one-answer =
     record {
@@ -130,4 +142,5 @@ one-answer =
       collector-feed = λ c piece report area. fed c piece report area;
       collector-silence = λ c report. fell c report;
       collector-forget = λ c s. forgot c s;
+      replay = λ c records report area. replayed c records report area;
     }

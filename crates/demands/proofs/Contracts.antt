@@ -36,6 +36,7 @@ contracts =
       collector-feed = λ κ1 κ2 κ3 c piece report report′ area area′ r. itself;
       collector-silence = λ κ1 c report report′ r. itself;
       collector-forget = λ c s r. itself;
+      replay = λ κ1 κ2 κ3 c records report report′ area area′ r. itself;
     }
 
 pub exported-contracts : ExportedContracts
@@ -49,6 +50,7 @@ exported-contracts =
       hb-feed = λ κ1 κ2 κ3 κ4 κ5 κ6 state state′ piece report report′ area area′ eaten eaten′ reported reported′ r. itself;
       hb-silence = λ κ1 κ2 κ3 state state′ report report′ reported reported′ r. itself;
       hb-forget = λ κ1 state state′ slot r. itself;
+      hb-replay = λ κ1 κ2 κ3 κ4 κ5 κ6 state state′ records report report′ area area′ eaten eaten′ reported reported′ r. itself;
       hb-npdu-read = λ κ1 κ2 κ3 octets fields fields′ next next′ r. itself;
       hb-npdu-write = λ κ1 κ2 κ3 fields out out′ wrote wrote′ r. itself;
       hb-apdu-read = λ κ1 κ2 κ3 octets fields fields′ next next′ r. itself;

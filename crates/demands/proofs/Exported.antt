@@ -62,16 +62,16 @@ use Rattle.demands.proofs.One.{writers-refuse}
 use Rattle.demands.specs.Exported.{Holding, BadState, TrunkCall, Carried, ForgetCall, ReadsInto, WritesFrom, ExportedFresh, ExportedFeed, ExportedSilence, ExportedForget, ExportedNpduRead, ExportedApduRead, ExportedStep, ExportedServiceRead, ExportedCount, ExportedList, ExportedNext, ExportedNpduWrite, ExportedApduWrite, ExportedItemsWrite, ExportedServiceWrite}
 
 -- two numbers are not one
-differ : {X : Type 0} {n : ℕ} (a b : ℕ) → eqb a b ≡ false → n ≡ a → n ≡ b → X
+pub differ : {X : Type 0} {n : ℕ} (a b : ℕ) → eqb a b ≡ false → n ≡ a → n ≡ b → X
 differ a b f p q = absurd (eqb-false a b f (sym p ∙ q))
 
 -- ---- the state area, by the two tests that loading makes
-data Judged (state : List ℕ) : Type 0 where
+pub data Judged (state : List ℕ) : Type 0 where
   other : (length state ≡ stateSize → ⊥) → loadOf state .refused ≡ 60 → Judged state
   none : length state ≡ stateSize → loadOf state .refused ≡ 59 → Judged state
   some : length state ≡ stateSize → loadOf state .refused ≡ 0 → Judged state
 
-judged : (state : List ℕ) → Judged state
+pub judged : (state : List ℕ) → Judged state
 unfolding loadOf
 judged state =
     by-test (eqb (length state) stateSize)
@@ -79,13 +79,13 @@ judged state =
     (λ e. other (eqb-false (length state) stateSize e) (rw e))
 
 -- what is not loaded holds no state; what is holds one
-not-loaded : (state : List ℕ) (n : ℕ) → eqb n 0 ≡ false → loadOf state .refused ≡ n → (c : Collector) → Loads state c → ⊥
+pub not-loaded : (state : List ℕ) (n : ℕ) → eqb n 0 ≡ false → loadOf state .refused ≡ n → (c : Collector) → Loads state c → ⊥
 not-loaded state n f e c l = differ n 0 f e (ap (λ (x : Loaded). x .refused) l)
 
-held-one : (state : List ℕ) (c : Collector) → Loads state c → (P : Collector → Type 0) → Holding state P → P c
+pub held-one : (state : List ℕ) (c : Collector) → Loads state c → (P : Collector → Type 0) → Holding state P → P c
 held-one state c l P h = subst P (sym (inside-is state (h .0) (h .1)) ∙ inside-is state c l) (h .2)
 
-four : (state : List ℕ) (c : Collector) → Octets state → Loads state c → Four c
+pub four : (state : List ℕ) (c : Collector) → Octets state → Loads state c → Four c
 four state c os l = length-view (c .slots) 4 (loads-only state c os l .0 .four)
 
 -- the area is the octets of the state that it holds, and each call keeps that
@@ -95,10 +95,10 @@ Own state = (c : Collector) → Loads state c → state ≡ stateOctets c
 pub octets-own : (state : List ℕ) → Octets state → Own state
 octets-own state os c l = loads-only state c os l .1
 
-own-next : (state : List ℕ) (d : Collector) → state ≡ stateOctets d → Loads state d → Own state
+pub own-next : (state : List ℕ) (d : Collector) → state ≡ stateOctets d → Loads state d → Own state
 own-next state d e l c k = e ∙ ap stateOctets (sym (inside-is state d l) ∙ inside-is state c k)
 
-own-same : (state state′ : List ℕ) → state′ ≡ state → Own state → Own state′
+pub own-same : (state state′ : List ℕ) → state′ ≡ state → Own state → Own state′
 own-same state state′ e h = subst Own (sym e) h
 
 module _ (state : List ℕ) (own : Own state) where
@@ -147,10 +147,10 @@ module _ {n : ℕ} (A B : Type 0) where
       }
 
 -- a state that is held is bad exactly when 59 names it
-to-bad : (state : List ℕ) (c : Collector) → Loads state c → Broken c → BadState state
+pub to-bad : (state : List ℕ) (c : Collector) → Loads state c → Broken c → BadState state
 to-bad state c l b = inr (c, l, b)
 
-of-bad : (state : List ℕ) (c : Collector) → Loads state c → BadState state → Broken c
+pub of-bad : (state : List ℕ) (c : Collector) → Loads state c → BadState state → Broken c
 of-bad state c l q = ⊎-elim (λ lacks. absurd (lacks c l)) (λ h. held-one state c l Broken h) q
 
 -- ---- hb_fresh

@@ -30,5 +30,7 @@ pub mod SegmentReports
 pub mod Reported
 pub mod RecordOctets
 pub mod ServiceRows
+pub mod Replay
+pub mod ReplayExported
 pub mod WriterRows
 pub mod ServicesWorked

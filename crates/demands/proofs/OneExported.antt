@@ -20,6 +20,7 @@ use Rattle.hitchbarley.proofs.One.{writes-one, fills-one, fills-to-one, counts-
 use Rattle.hitchbarley.proofs.Kept.{saves-some, feeds-some, stills-some, forgets-some}
 use Rattle.demands.specs.Words.{One}
 use Rattle.demands.specs.Exported.{OneExported}
+use Rattle.demands.proofs.ReplayExported.{replayed}
 
 -- a promise that is an equation
 equal : (x : ℕ) → One ℕ (λ r. r ≡ x)
@@ -119,6 +120,7 @@ one-exported =
       hb-feed = fed;
       hb-silence = fell;
       hb-forget = forgot;
+      hb-replay = replayed;
       hb-npdu-read = λ octets fields. filled-to _ _ _ _ _ fields;
       hb-npdu-write = λ fields out. wrote _ _ out;
       hb-apdu-read = λ octets fields. filled-to _ _ _ _ _ fields;

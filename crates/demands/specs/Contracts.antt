@@ -48,11 +48,14 @@ use Rattle.collector.specs.declared.Collector.{Collector}
 use Rattle.collector.specs.declared.Fed.{Fed}
 use Rattle.collector.specs.declared.Fell.{Fell}
 use Rattle.collector.specs.declared.Forgot.{Forgot}
+use Rattle.playback.specs.Calls.{Plays}
+use Rattle.playback.specs.declared.Played.{Played}
 use Rattle.records.specs.Network.{npduSize, npduRecord, npduAt}
 use Rattle.records.specs.Application.{apduSize, apduAt}
 use Rattle.records.specs.Service.{serviceSize, serviceAt}
 use Rattle.state.specs.Calls.{Saves}
 use Rattle.hitchbarley.specs.Trunk as Trunk
+use Rattle.hitchbarley.specs.Replay.{Replays}
 use Rattle.hitchbarley.specs.Answers.{Writes, Fills, FillsTo}
 use Rattle.hitchbarley.specs.Headers.{apduGood, apduNumber, apduOctets, apduParams, npduFault, apduFault}
 use Rattle.hitchbarley.specs.Items.{Counts, Lists, Steps, stepGood, stepNumber, stepRecord, stepPlace}
@@ -86,6 +89,7 @@ use Rattle.collector.proofs.Collector.fresh.Reads as collector-fresh-call
 use Rattle.collector.proofs.Collector.feed.Reads as collector-feed-call
 use Rattle.collector.proofs.Collector.silence.Reads as collector-silence-call
 use Rattle.collector.proofs.Collector.forget.Reads as collector-forget-call
+use Rattle.playback.proofs.replay.Reads as replay-call
 use Rattle.hitchbarley.proofs.sum_calls.hb_header_check.Reads as hb-header-check-call
 use Rattle.hitchbarley.proofs.sum_calls.hb_data_check.Reads as hb-data-check-call
 use Rattle.hitchbarley.proofs.sum_calls.hb_header_run.Reads as hb-header-run-call
@@ -94,6 +98,7 @@ use Rattle.hitchbarley.proofs.trunk_calls.hb_fresh.Reads as hb-fresh-call
 use Rattle.hitchbarley.proofs.trunk_calls.hb_feed.Reads as hb-feed-call
 use Rattle.hitchbarley.proofs.trunk_calls.hb_silence.Reads as hb-silence-call
 use Rattle.hitchbarley.proofs.trunk_calls.hb_forget.Reads as hb-forget-call
+use Rattle.hitchbarley.proofs.replay_calls.hb_replay.Reads as hb-replay-call
 use Rattle.hitchbarley.proofs.header_calls.hb_npdu_read.Reads as hb-npdu-read-call
 use Rattle.hitchbarley.proofs.header_calls.hb_npdu_write.Reads as hb-npdu-write-call
 use Rattle.hitchbarley.proofs.header_calls.hb_apdu_read.Reads as hb-apdu-read-call
@@ -202,6 +207,9 @@ pub record Contracts : Type 0 where
   pub collector-forget : (c : Collector) (s : ℕ) (r : Forgot)
       → Contract (collector-forget-call.Pre tt (c, (s, tt))) (collector-forget-call.Post tt (c, (s, tt)) r (c, (s, tt)))
       (Forgets c s r)
+  pub replay : (κ1 κ2 κ3 : Lft) (c : Collector) (records report report′ area area′ : RefT (List ℕ)) (r : Played)
+      → Contract (replay-call.Pre (κ1, (κ2, (κ3, tt))) (c, (records, (report, (area, tt))))) (replay-call.Post (κ1, (κ2, (κ3, tt))) (c, (records, (report, (area, tt)))) r (c, (records, (report′, (area′, tt)))))
+      (Plays c (now report) (now area) (now records) r (now report′) (now area′))
 
 -- the calls that C and Rust link
 pub record ExportedContracts : Type 0 where
@@ -229,6 +237,9 @@ pub record ExportedContracts : Type 0 where
   pub hb-forget : (κ1 : Lft) (state state′ : RefT (List ℕ)) (slot : ℕ) (r : ℕ)
       → Contract (hb-forget-call.Pre (κ1, tt) (state, (slot, tt))) (hb-forget-call.Post (κ1, tt) (state, (slot, tt)) r (state′, (slot, tt)))
       (Trunk.Forgets (now state) slot r (now state′))
+  pub hb-replay : (κ1 κ2 κ3 κ4 κ5 κ6 : Lft) (state state′ records report report′ area area′ : RefT (List ℕ)) (eaten eaten′ reported reported′ : RefT ℕ) (r : ℕ)
+      → Contract (hb-replay-call.Pre (κ1, (κ2, (κ3, (κ4, (κ5, (κ6, tt)))))) (state, (records, (report, (area, (eaten, (reported, tt))))))) (hb-replay-call.Post (κ1, (κ2, (κ3, (κ4, (κ5, (κ6, tt)))))) (state, (records, (report, (area, (eaten, (reported, tt)))))) r (state′, (records, (report′, (area′, (eaten′, (reported′, tt)))))))
+      (Replays (now state) (now report) (now area) (now records) r (now eaten′) (now reported′) (now state′) (now report′) (now area′))
   pub hb-npdu-read : (κ1 κ2 κ3 : Lft) (octets fields fields′ : RefT (List ℕ)) (next next′ : RefT ℕ) (r : ℕ)
       → Contract (hb-npdu-read-call.Pre (κ1, (κ2, (κ3, tt))) (octets, (fields, (next, tt)))) (hb-npdu-read-call.Post (κ1, (κ2, (κ3, tt))) (octets, (fields, (next, tt))) r (octets, (fields′, (next′, tt))))
       ((let h = readNpdu (now octets) in FillsTo npduSize (eqb (h .refused) 0) (h .refused) (npduRecord (h .head)) (h .next) (now fields) r (now next′) (now fields′)))

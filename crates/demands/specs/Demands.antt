@@ -83,6 +83,8 @@ use Rattle.collector.specs.declared.Collector.{Collector}
 use Rattle.collector.specs.declared.Fed.{Fed}
 use Rattle.collector.specs.declared.Fell.{Fell}
 use Rattle.collector.specs.declared.Forgot.{Forgot}
+use Rattle.playback.specs.Calls.{Plays}
+use Rattle.playback.specs.declared.Played.{Played}
 use Rattle.state.specs.Layout.{stateOctets, Fits}
 use Rattle.state.specs.Calls.{Loads}
 use Rattle.hitchbarley.specs.Trunk.{stateBy}
@@ -129,6 +131,7 @@ pub record OneAnswer : Type 0 where
   pub collector-feed : (c : Collector) (piece report area : List ℕ) → One (Fed × List ℕ × List ℕ) (λ x. Feeds c report area piece (x .0) (x .1) (x .2))
   pub collector-silence : (c : Collector) (report : List ℕ) → One (Fell × List ℕ) (λ x. Stills c report (x .0) (x .1))
   pub collector-forget : (c : Collector) (s : ℕ) → One Forgot (λ r. Forgets c s r)
+  pub replay : (c : Collector) (records report area : List ℕ) → One (Played × List ℕ × List ℕ) (λ x. Plays c report area records (x .0) (x .1) (x .2))
 
 -- ---- 1b. "Bad input gets the refusal number that document 01 fixes": which numbers each call can give, and exactly when for those of areas and states.
 

@@ -48,6 +48,7 @@ use Rattle.records.specs.Service.{serviceSize, serviceRecord, serviceAt}
 use Rattle.state.specs.Layout.{stateSize, stateOctets}
 use Rattle.state.specs.Calls.{Loads, Saves}
 use Rattle.hitchbarley.specs.Trunk as Trunk
+use Rattle.hitchbarley.specs.Replay.{Replays}
 use Rattle.hitchbarley.specs.Answers.{Writes, Fills, FillsTo}
 use Rattle.hitchbarley.specs.Headers.{apduGood, apduNumber, apduOctets, apduParams, npduFault, apduFault}
 use Rattle.hitchbarley.specs.Items.{Counts, Lists, Steps, stepGood, stepNumber, stepRecord, stepPlace}
@@ -228,6 +229,8 @@ pub record OneExported : Type 0 where
       → One (ℕ × ℕ × ℕ × List ℕ × List ℕ × List ℕ) (λ x. Trunk.Feeds state report area piece (x .0) (x .1) (x .2) (x .3) (x .4) (x .5))
   pub hb-silence : (state report : List ℕ) → Octets state → One (ℕ × ℕ × List ℕ × List ℕ) (λ x. Trunk.Stills state report (x .0) (x .1) (x .2) (x .3))
   pub hb-forget : (state : List ℕ) (slot : ℕ) → Octets state → One (ℕ × List ℕ) (λ x. Trunk.Forgets state slot (x .0) (x .1))
+  pub hb-replay : (state records report area : List ℕ) → Octets state
+      → One (ℕ × ℕ × ℕ × List ℕ × List ℕ × List ℕ) (λ x. Replays state report area records (x .0) (x .1) (x .2) (x .3) (x .4) (x .5))
   pub hb-npdu-read : (octets fields : List ℕ)
       → (let h = readNpdu octets in
       One (ℕ × ℕ × List ℕ) (λ x. FillsTo npduSize (eqb (h .refused) 0) (h .refused) (npduRecord (h .head)) (h .next) fields (x .0) (x .1) (x .2)))

@@ -16,5 +16,7 @@ pub mod FramesWorked
 pub mod Reported
 pub mod RecordOctets
 pub mod ServiceRows
+pub mod Replay
+pub mod ReplayExported
 pub mod WriterRows
 pub mod ServicesWorked

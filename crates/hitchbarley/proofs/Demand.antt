@@ -3,11 +3,17 @@
 use Prim.Native.Nat.{ℕ}
 use mathlib.Core.Path.{_≡_, refl, sym, ap, subst, _∙_}
 use mathlib.Core.Bool.{Bool, true, false}
-use mathlib.Core.List.{List, []}
+use mathlib.Core.List.{List, [], _∷_, _++_}
+use mathlib.Core.Option.{Option}
 use lib.ListN.{length}
 use borrow.Author.Tests.{eq-eqb}
-use Rattle.runs.specs.Run.{Run, ends}
-use Rattle.runs.proofs.Carrying.{Carries, carried}
+use Rattle.runs.specs.Run.{Run, octs, ends}
+use Rattle.runs.specs.Run.Event.{silence}
+use Rattle.runs.specs.Run.Order.{trunk, forget}
+use Rattle.runs.specs.Offered.{Offer, Made, boxCalls, Offered}
+use Rattle.runs.specs.Offered.Offer.{call}
+use Rattle.runs.specs.Offered.Made.{feed, still, free}
+use Rattle.runs.proofs.Carrying.{Carries, Goes, carry}
 use Rattle.trunk.specs.Reading.{heldOf}
 use Rattle.trunk.specs.Demand.{reading}
 use Rattle.rebuild.specs.View.{keys}
@@ -16,18 +22,25 @@ use Rattle.rebuild.proofs.Seen.{view-unview, unview-view}
 use Rattle.recordings.specs.Frames.{rules}
 use Rattle.reports.specs.Layout.{reportSize}
 use Rattle.collector.specs.Calls as Calls
-use Rattle.collector.specs.Calls.{slotsOf, saidSo, feedRefusal, feeding, silenceRefusal, stilling}
+use Rattle.collector.specs.Calls.{box, slotsOf, saidSo, feedRefusal, feeding, silenceRefusal, stilling}
 use Rattle.collector.specs.Frame.{bacnet}
 use Rattle.collector.specs.Offering as Collecting
 use Rattle.collector.specs.Offering.{Passes, End, told, WithArea}
 use Rattle.collector.specs.declared.Collector.{Collector}
 use Rattle.collector.specs.declared.Fed.{Fed}
 use Rattle.collector.specs.declared.Fell.{Fell}
+use Rattle.collector.proofs.Alike.{Boxed, seen, called, called-by}
 use Rattle.collector.proofs.Demand.{demand3}
 use Rattle.records.specs.Flag.{flag}
 use Rattle.state.specs.Calls.{Loaded, Loads}
+use Rattle.playback.specs.Layout.{recordOctets}
+use Rattle.playback.specs.Calls.{playing, Plays}
+use Rattle.playback.specs.Offering as Playback
+use Rattle.playback.proofs.Demand as Replay
 use Rattle.hitchbarley.specs.Trunk.{Left, stateBy, stateOf, passed, bar, inside, feedBar, feedLeft, silenceBar, silenceLeft, forgetNumberOf, forgotten, forgetLeft, Feeds, Stills, Forgets}
-use Rattle.hitchbarley.specs.Offering.{Heard, toldBy, Areas, calls, Linked}
+use Rattle.hitchbarley.specs.Replay.{replayLeft, Replays}
+use Rattle.hitchbarley.specs.Offering.{Heard, toldBy, Areas, calls, Replaying, Calling, Linked}
+use Rattle.hitchbarley.specs.Offering.Calling.{made, replayed}
 
 pub inside-is : (state : List ℕ) (c : Collector) → Loads state c → inside state ≡ c
 inside-is state c l = ap (λ (x : Loaded). x .state) l
@@ -143,18 +156,90 @@ linked =
           );
     }
 
+-- ---- and so, by the box's: every call of either kind
+abbrev HoldsBox : Areas → Boxed → Type 0
+HoldsBox s x = (u : WithArea) × HoldsIt s u × (x ≡ seen u)
+
+abbrev BoxGoes : Boxed → Run → ℕ → Option (List ℕ) → Boxed → Type 0
+BoxGoes = Goes (Made (boxCalls box))
+
+made-goes : (s t : Areas) (x : Boxed) {lent : Run} {n : ℕ} {said : Option (List ℕ)} → HoldsBox s x → Made calls s lent n said t → (y : Boxed) × BoxGoes x lent n said y × HoldsBox t y
+made-goes s t x {n = n} {said = said} a (feed piece c) =
+    let w = linked .feeds s t (a .0) piece n said (a .1) c in
+    let y = called .feeds (a .0) (w .0) x piece n said (a .2) (w .1) in
+    (y .0, (λ p run rs last o. call (octs piece) run (feed piece (y .1)) o), (w .0, w .2, y .2))
+made-goes s t x {said = said} a (still c) =
+    let w = linked .stills s t (a .0) said (a .1) c in
+    let y = called .stills (a .0) (w .0) x said (a .2) (w .1) in
+    (y .0, (λ p run rs last o. call (trunk silence ∷ []) run (still (y .1)) o), (w .0, w .2, y .2))
+made-goes s t x a (free i c) =
+    let w = linked .forgets s t (a .0) i (a .1) c in
+    let y = called .forgets (a .0) (w .0) x i (a .2) (w .1) in
+    (y .0, (λ p run rs last o. call (forget i ∷ []) run (free i (y .1)) o), (w .0, w .2, y .2))
+
+-- a replay over octets is the replay of the state that they hold
+pub replays-carried : (state report area o : List ℕ) (c : Collector) → Loads state c → length report ≡ reportSize → length area ≡ 65536
+    → {r eaten reported : ℕ} {state′ report′ area′ : List ℕ} → Replays state report area o r eaten reported state′ report′ area′
+    → (b : Bool) × (later : Collector) × (reported ≡ flag b) × Plays c report area o (record { refused = r; eaten = eaten; reported = b; state = later }) report′ area′ × Loads state′ later
+unfolding replayLeft feedBar bar
+replays-carried state report area o c l k m y =
+    let d = playing c report area o in
+    let i = inside-is state c l in
+    let z : feedBar state report area ≡ 0 = rw (eq-eqb (length report) reportSize k, eq-eqb (length area) 65536 m, l) in
+    let q : replayLeft state report area o ≡ passed (d .number) (d .left) report = rw (z, i) in (
+      saidSo (d .left .said),
+      stateOf (d .left),
+      y .spoke ∙ ap (λ (x : Left). x .reported) q,
+      record {
+        refused = y .number ∙ ap (λ (x : Left). x .number) q;
+        eaten = y .ate ∙ ap (λ (x : Left). x .eaten) q;
+        reported = refl;
+        receiver = refl;
+        slots = view-unview (d .left .slots);
+        reportAfter = y .reportAfter ∙ ap (λ (x : Left). x .report) q;
+        areaAfter = y .areaAfter ∙ ap (λ (x : Left). x .area) q;
+      },
+      rw i at (y .again z),
+    )
+
+replay-goes : (s t : Areas) (x : Boxed) {lent : Run} {n : ℕ} {said : Option (List ℕ)} → HoldsBox s x → Replaying s lent n said t → (y : Boxed) × BoxGoes x lent n said y × HoldsBox t y
+replay-goes s t x {lent} {n} {said} a h =
+    let u = a .0 in
+    let g = replays-carried (s .0) (h .report) (s .1) (recordOctets lent ++ h .behind) (u .0) (a .1 .0) (h .sixteen) (h .sized) (h .promise) in
+    let c : Playback.Replaying u lent n said (g .1, t .1) = record {
+      behind = h .behind;
+      report = h .report;
+      report′ = h .report′;
+      answer = record { refused = h .number; eaten = n; reported = g .0; state = g .1 };
+      ends = h .ends;
+      sixteen = h .sixteen;
+      promise = rw (a .1 .1) (g .3);
+      ate = refl;
+      says = h .says ∙ told-flag (h .reported) (g .0) (h .report′) (g .2);
+      leaves = refl;
+    } in
+    let y = Replay.step u (g .1, t .1) x lent n said (a .2) c in
+    (y .0, y .1, ((g .1, t .1), (g .4, refl), y .2))
+
+goes : (s t : Areas) (x : Boxed) (lent : Run) (n : ℕ) (said : Option (List ℕ)) → HoldsBox s x → Calling s lent n said t → (y : Boxed) × BoxGoes x lent n said y × HoldsBox t y
+goes s t x lent n said a (made c) = made-goes s t x a c
+goes s t x lent n said a (replayed c) = replay-goes s t x a c
+
 -- "Then reports, final state and message area are those that a reading of the whole recording by position gives."
 pub octets-demand3 : (state : List ℕ) (c : Collector) (area : List ℕ) → Loads state c → Passes c → length area ≡ 65536 → (run : Run) (h : Heard)
     → Linked (length (heldOf (c .receiver))) state area run h
     → (let e = reading (rules keys bacnet) (c .receiver) (slotsOf c) area run in
     (h .reports ≡ e .reports) × (h .area ≡ e .area) × Loads (h .state) (stateBy (e .state) (e .slots)))
 octets-demand3 state c area l P z run h o =
-    let t = carried linked {u = (c, area)} (l, refl) o in
-    let d = t .0 .0 in
-    let e : End = ends (h .reports) (d .receiver) (slotsOf d) (t .0 .1) in
-    let q : e ≡ reading (rules keys bacnet) (c .receiver) (slotsOf c) area run = demand3 c area P z (d, t .1, refl, refl) in
+    let t = carry Calling (Made (boxCalls box)) HoldsBox goes {u = seen (c, area)} ((c, area), (l, refl), refl) o in
+    let u = t .2 .0 in
+    let d = u .0 in
+    let e : End = ends (h .reports) (d .receiver) (slotsOf d) (u .1) in
+    let back : Offered box (length (heldOf (c .receiver))) (c .receiver) (slotsOf c) area run e =
+    subst (λ (y : Boxed). Offer (Made (boxCalls box)) (length (heldOf (c .receiver))) (seen (c, area)) run (h .reports) y) (t .2 .2) (t .1) in
+    let q : e ≡ reading (rules keys bacnet) (c .receiver) (slotsOf c) area run = demand3 c area P z (called-by back) in
     let same : d ≡ stateBy (d .receiver) (slotsOf d) = ap (λ (x : Slots). record { receiver = d .receiver; slots = x }) (sym (unview-view (d .slots))) in (
       ap (λ (x : End). x .reports) q,
-      sym (t .2 .1) ∙ ap (λ (x : End). x .area) q,
-      subst (λ (x : End). Loads (h .state) (stateBy (x .state) (x .slots))) q (subst (Loads (h .state)) same (t .2 .0)),
+      sym (t .2 .1 .1) ∙ ap (λ (x : End). x .area) q,
+      subst (λ (x : End). Loads (h .state) (stateBy (x .state) (x .slots))) q (subst (Loads (h .state)) same (t .2 .1 .0)),
     )

@@ -1,4 +1,5 @@
 pub mod Passed
+pub mod Replayed
 pub mod Answered
 pub mod Headers
 pub mod Items

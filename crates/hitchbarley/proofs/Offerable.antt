@@ -7,7 +7,8 @@ use lib.ListN.{length, length-map}
 use borrow.Author.Tests.{eq-eqb, eqb-true}
 use Rattle.octets.specs.Choice.{both-left}
 use Rattle.runs.specs.Run.{Run, ends}
-use Rattle.runs.specs.Offered.{answer, boxCalls}
+use Rattle.runs.specs.Offered.{Offer, Made, answer, boxCalls}
+use Rattle.runs.specs.Offered.Offer.{over, call}
 use Rattle.runs.proofs.Carrying.{Carries, carried}
 use Rattle.trunk.specs.Reading.{heldOf}
 use Rattle.rebuild.specs.View.{back}
@@ -26,7 +27,8 @@ use Rattle.state.specs.Calls.{Loads}
 use Rattle.state.proofs.Whole.{Shaped}
 use Rattle.state.proofs.Exact.{shaped-loads}
 use Rattle.hitchbarley.specs.Trunk.{Left, stateBy, stateOf, passed, bar, inside, feedBar, feedLeft, silenceBar, silenceLeft, forgotten, forgetLeft, Feeds, Stills, Forgets}
-use Rattle.hitchbarley.specs.Offering.{Heard, toldBy, Areas, calls, Linked}
+use Rattle.hitchbarley.specs.Offering.{Heard, toldBy, Areas, calls, Calling, Linked}
+use Rattle.hitchbarley.specs.Offering.Calling.{made}
 use Rattle.hitchbarley.proofs.Demand.{inside-is}
 
 told-back : (x : Option (List ℕ)) (report : List ℕ) → x ≡ toldBy (flag (saidSo x)) (written x report)
@@ -179,6 +181,11 @@ linking =
       );
     }
 
+-- by the three calls alone
+widened : {p : ℕ} {s t : Areas} {run : Run} {rs : List (ℕ × List ℕ)} → Offer (Made calls) p s run rs t → Offer Calling p s run rs t
+widened over = over
+widened (call lent run c o) = call lent run (made c) (widened o)
+
 pub some-way : (state : List ℕ) (c : Collector) (area : List ℕ) → Loads state c → Passes c → length area ≡ 65536 → (run : Run)
     → (h : Heard) × Linked (length (heldOf (c .receiver))) state area run h
 some-way state c area l P z run =
@@ -188,4 +195,4 @@ some-way state c area l P z run =
     let same : c ≡ stateBy (c .receiver) (slotsOf c) = ap (λ (t : Slots). record { receiver = c .receiver; slots = t }) (sym (unview-view (c .slots))) in
     let S : Stands x (state, area) = record { fair = F; loads = subst (Loads state) same l; area = refl } in
     let t = carried linking {u = (state, area)} S (w .1) in
-    (ends (w .0 .reports) (t .0 .0) tt (t .0 .1), t .1)
+    (ends (w .0 .reports) (t .0 .0) tt (t .0 .1), widened (t .1))

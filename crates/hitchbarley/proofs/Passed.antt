@@ -31,28 +31,28 @@ use Rattle.state.proofs.Places.{Holds, accepted-holds, holds-octets, holds-load
 use Rattle.hitchbarley.specs.Trunk.{Left, barred, stateBy, stateOf, passed, bar, inside, feedBar, feedLeft, silenceBar, silenceLeft, forgetNumberOf, forgotten, forgetLeft, Feeds, Stills, Forgets}
 
 -- a state by its parts
-whole : (c : Collector) (r : Receiver) (s : List (Messages.Slot Key)) → c .receiver ≡ r → slotsOf c ≡ s → c ≡ stateBy r s
+pub whole : (c : Collector) (r : Receiver) (s : List (Messages.Slot Key)) → c .receiver ≡ r → slotsOf c ≡ s → c ≡ stateBy r s
 whole c r s e f =
     let t : c .slots ≡ unview s = sym (unview-view (c .slots)) ∙ ap unview f in
     rw (← e, ← t)
 
 -- what is left by equal answers
-number-of : {a b : Left} → a ≡ b → b .number ≡ a .number
+pub number-of : {a b : Left} → a ≡ b → b .number ≡ a .number
 number-of e = sym (ap (λ (d : Left). d .number) e)
 
-eaten-of : {a b : Left} → a ≡ b → b .eaten ≡ a .eaten
+pub eaten-of : {a b : Left} → a ≡ b → b .eaten ≡ a .eaten
 eaten-of e = sym (ap (λ (d : Left). d .eaten) e)
 
-reported-of : {a b : Left} → a ≡ b → b .reported ≡ a .reported
+pub reported-of : {a b : Left} → a ≡ b → b .reported ≡ a .reported
 reported-of e = sym (ap (λ (d : Left). d .reported) e)
 
-state-of : {a b : Left} → a ≡ b → b .state ≡ a .state
+pub state-of : {a b : Left} → a ≡ b → b .state ≡ a .state
 state-of e = sym (ap (λ (d : Left). d .state) e)
 
-report-of : {a b : Left} → a ≡ b → b .report ≡ a .report
+pub report-of : {a b : Left} → a ≡ b → b .report ≡ a .report
 report-of e = sym (ap (λ (d : Left). d .report) e)
 
-area-of : {a b : Left} → a ≡ b → b .area ≡ a .area
+pub area-of : {a b : Left} → a ≡ b → b .area ≡ a .area
 area-of e = sym (ap (λ (d : Left). d .area) e)
 
 -- what is lifted: link and slots by value, the store in its place
@@ -62,7 +62,7 @@ lifted-holds state os e z =
     let y : loadOf state .refused ≡ 0 = rw e at z in
     rw (e, accepted-store state y) (accepted-holds state os y)
 
-lifted-inside : (state : List ℕ) {w : Lifted} → w ≡ liftOf state → w .refused ≡ 0 → over (w .link) (w .slots) (storePart state) ≡ inside state
+pub lifted-inside : (state : List ℕ) {w : Lifted} → w ≡ liftOf state → w .refused ≡ 0 → over (w .link) (w .slots) (storePart state) ≡ inside state
 unfolding liftOf
 lifted-inside state e z =
     let y : loadOf state .refused ≡ 0 = rw e at z in
@@ -105,7 +105,7 @@ module _ (state report area piece : List ℕ) where
   feeds-area k h = feeds-barred 60 (rw (eq-eqb (length report) reportSize k, ne-eqb (length area) 65536 h)) (λ z. omega arith)
 
   module _ (k : length report ≡ reportSize) (m : length area ≡ 65536) (w : Lifted) (e : w ≡ liftOf state) where
-    sizes : feedBar state report area ≡ w .refused
+    pub sizes : feedBar state report area ≡ w .refused
     unfolding feedBar bar
     sizes = rw (eq-eqb (length report) reportSize k, eq-eqb (length area) 65536 m) (lifted-number state e)
 

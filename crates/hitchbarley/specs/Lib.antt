@@ -3,4 +3,5 @@ pub mod Headers
 pub mod Items
 pub mod Services
 pub mod Trunk
+pub mod Replay
 pub mod Offering

@@ -2,6 +2,7 @@
 mod answers;
 pub mod header_calls;
 pub mod item_calls;
+pub mod replay_calls;
 pub mod service_calls;
 pub mod sum_calls;
 pub mod trunk_calls;

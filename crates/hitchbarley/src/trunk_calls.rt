@@ -49,14 +49,14 @@ pub extern "C" fn hb_feed(
         area,
     );
     let link = f.link;
-    state::lay_link(link, state);
     *eaten = f.eaten;
     *reported = f.reported as u8;
     if f.moved {
         let slots = f.slots;
-        state::lay_slots(slots, state);
+        state::lay(link, slots, state);
         return f.refused;
     }
+    state::lay_link(link, state);
     f.refused
 }
 

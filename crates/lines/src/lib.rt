@@ -103,10 +103,10 @@ fn passed(report: &[u8; 16], out: &mut [u8], at: usize) -> usize {
     heading::stations(report[4], report[3], out, a)
 }
 
-// The octets heard so far.
-fn place(heard: u64, out: &mut [u8], at: usize) -> usize {
-    let a = put(out, at, b"octet ");
-    number(heard, out, a)
+// A report's place: what is counted, and the number of the one that caused it.
+fn place(counted: &[u8], n: u64, out: &mut [u8], at: usize) -> usize {
+    let a = put(out, at, counted);
+    number(n, out, a)
 }
 
 // A report in words behind its place.
@@ -138,7 +138,23 @@ pub fn line(
     out: &mut [u8],
     at: usize,
 ) -> usize {
-    let a = place(heard, out, at);
+    let a = place(b"octet ", heard, out, at);
     let b = told(book, report, data, area, records, out, a);
     end(report, wanted, out, b)
+}
+
+// The line of a report behind the number of the record that caused it, for recordings.
+pub fn recorded(
+    book: &[u8],
+    record: u64,
+    report: &[u8; 16],
+    data: &[u8],
+    area: &[u8],
+    records: &mut [u8],
+    out: &mut [u8],
+    at: usize,
+) -> usize {
+    let a = place(b"record ", record, out, at);
+    let b = told(book, report, data, area, records, out, a);
+    one(10, out, b)
 }

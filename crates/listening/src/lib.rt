@@ -2,8 +2,8 @@
 // or with --csv a row for each value. Raw octets carry no silences, so the end of the input is the only one that is heard.
 mod closing;
 mod ear;
-mod output;
-mod wish;
+pub mod output;
+pub mod wish;
 
 use ear::Ear;
 use output::Gathered;

@@ -11,12 +11,12 @@ pub fn so_far(at: usize) -> Gathered {
     Gathered { at, stopped: false }
 }
 
-// Writes out what is gathered; an output that takes no more is said, and the listening stops.
+// Writes out what is gathered; an output that takes no more is said, and the program stops.
 pub fn flush(at: usize, out: &[u8; 131072]) -> Gathered {
     if io::write_all(STDOUT_FILENO, show::part(out, 0, at)) {
         return so_far(0);
     }
-    os::fail(b"listen: standard output");
+    os::fail(b"standard output");
     Gathered {
         at: 0,
         stopped: true,

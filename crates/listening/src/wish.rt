@@ -58,7 +58,7 @@ pub fn usage() {
     say(
         b"Such a recording has no silences, so a frame that was cut off hides the good ones behind it.\n",
     );
-    say(b"A recording with silences in it (records of four octets) is not read yet.\n");
+    say(b"A recording with silences in it (records of four octets) is read by replay FILE.\n");
 }
 
 // The file to read, or standard input; one that does not open is said, and answered below 0.

@@ -8,13 +8,15 @@ use lib.Dec.{eqb}
 use lib.ListN.{length}
 use Rattle.octets.specs.Choice.{pick, both}
 use Rattle.octets.specs.Splice.{splice}
+use Rattle.frames.specs.declared.Link.{Link}
 use Rattle.rebuild.specs.declared.Slot.{Slot}
+use Rattle.rebuild.specs.declared.Slots.{Slots}
 use Rattle.collector.specs.declared.Collector.{Collector}
 use Rattle.collector.specs.Calls.{freshCollector, slotCount}
 use Rattle.state.specs.declared.Lifted.{Lifted}
-use Rattle.state.specs.Link.{linkGood, linkOf}
+use Rattle.state.specs.Link.{linkSize, linkOctets, linkGood, linkOf}
 use Rattle.state.specs.Slot.{slotGood, slotOf}
-use Rattle.state.specs.Layout.{stateSize, linkPart, storePart, slotPart, stateOctets}
+use Rattle.state.specs.Layout.{slotsPlace, slotsSize, stateSize, linkPart, storePart, slotPart, slotsOctets, stateOctets}
 
 -- ---- which octets are no state's: those of a part that is none
 unfoldable pub goodAt : List ℕ → ℕ → Bool
@@ -72,6 +74,13 @@ pub record Lays (at n : ℕ) (xs area : List ℕ) (r : ℕ) (later : List ℕ) :
   pub answer : r ≡ pick (eqb (length area) stateSize) 0 60
   pub after : later ≡ pick (eqb (length area) stateSize) (splice area at xs) area
   pub long : length xs ≡ n
+
+-- a link, and slots over what it left
+pub record LaysBoth (l : Link) (t : Slots) (area : List ℕ) (r : ℕ) (later : List ℕ) : Type 0 where
+  pub number : ℕ
+  pub linked : List ℕ
+  pub link : Lays 0 linkSize (linkOctets l) area number linked
+  pub slots : Lays slotsPlace slotsSize (slotsOctets (t .slots)) linked r later
 
 -- ---- saving: 0 and the area is the state's octets, or 60 and it is as it was
 pub record Saves (c : Collector) (area : List ℕ) (r : ℕ) (later : List ℕ) : Type 0 where

@@ -10,7 +10,7 @@ ghost use Prim.Native.Nat.{_<_};
 ghost use Rattle.collector.specs.Calls.{slotCount};
 ghost use Rattle.state.specs.Link.{linkSize, linkOctets};
 ghost use Rattle.state.specs.Layout.{slotsPlace, slotPlace, slotsSize, slotsOctets};
-ghost use Rattle.state.specs.Calls.{liftOf, Lays, Saves};
+ghost use Rattle.state.specs.Calls.{liftOf, Lays, LaysBoth, Saves};
 
 // The octets of a link, in front; where the frame store stands and ends; where the slots stand, and the octets of each; the octets of a state.
 pub const LINK: usize = 9;
@@ -79,6 +79,14 @@ pub fn lay_slots(slots: Slots, area: &mut [u8]) -> u8
     }
     saving::put_slots(slots, area);
     0
+}
+
+// A link and slots laid one after the other.
+pub fn lay(link: Link, slots: Slots, area: &mut [u8]) -> u8
+    ensures { λ r. ⌜ LaysBoth link slots (now (area .entry)) r (now (area .exit)) ⌝ }
+{
+    lay_link(link, area);
+    lay_slots(slots, area)
 }
 
 // The state's octets into an area of its size; 60 and nothing changes in any other.

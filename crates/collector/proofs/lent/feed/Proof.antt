@@ -1,5 +1,5 @@
+use Rattle.collector.proofs.Eaten.{eats-line, eats-area, eats-slots, eats-quiet, eats-damage, eats-carried, eats-other, fair-slots, carried, data-inside, data-taken, data-short}
 use borrow.Author.Needs.{needs}
-use Rattle.collector.proofs.Eaten.{eats-line, eats-area, eats-slots, eats-quiet, eats-damage, eats-frame, fair-slots, data-inside, data-taken, data-short}
 use Rattle.collector.proofs.lent.feed.Statement.{statement}
 use Rattle.collector.proofs.lent.feed.Tie as tie
 
@@ -21,9 +21,17 @@ feed-spec =
     (λ c. search needs)
     (λ c κs. search needs)
     (λ c. search needs)
+    (λ c κs. search needs)
     (λ c. search (needs, data-inside))
     (λ c. search (needs, data-taken))
-    (λ c κs. search (needs, fair-slots, data-short))
+    (λ c κs. search (needs, fair-slots, data-short, carried))
+    (λ c. search needs)
+    (λ c. search needs)
+    (λ c. search needs)
+    (λ c. search (needs, eats-carried))
+    (λ c. search (needs, data-inside))
+    (λ c. search (needs, data-taken))
+    (λ c κs. search (needs, data-short, carried))
     (λ c. search needs)
     (λ c. search (needs, eats-quiet))
     (λ c. search needs)
@@ -31,5 +39,4 @@ feed-spec =
     (λ c. search (needs, eats-damage))
     (λ c. search needs)
     (λ c. search needs)
-    (λ c. search needs)
-    (λ c. search (needs, eats-frame)))
+    (λ c. search (needs, eats-other)))

@@ -1,0 +1,17 @@
+pub mod Records
+pub mod Readiness
+pub mod Playing
+pub mod Fed
+pub mod Gathering
+pub mod Judging
+pub mod Turning
+pub mod Ending
+pub mod Going
+pub mod Alike
+pub mod Chains
+pub mod Demand
+pub mod Parts
+pub mod Quiet
+pub mod Eaten
+pub mod Ways
+pub mod Examples
