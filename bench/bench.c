@@ -9,7 +9,8 @@
      bench run FILE PIECE RUNS [LESS]   feeds the first RUNS runs of octets (silences and forget orders end a run), the last LESS octets of the
                                    recording left out, and says nothing
 
-   PIECE is the most octets, or records, that a call is lent. A replay runs all of the recording, or with RUNS 0 nothing. */
+   PIECE is the most octets, or records, that a call is lent. A replay runs all of the recording, or with RUNS 0 nothing.
+   `bench later ..` does the same by the later edition. */
 #ifdef PLAIN
 #include "plain.h"
 #else
@@ -23,12 +24,13 @@ enum { AREA = 65536, MOST = 1 << 18, STACK = 1 << 18 };
 static uint8_t report[16], area[AREA], octets[MOST], file[4 * MOST];
 static struct { uint32_t at; uint8_t kind, value; } events[MOST]; /* each after so many octets */
 static size_t octet_count, event_count, record_count;
+static uint8_t later; /* the edition: 0 is 1995 */
 
 /* ---- the listener */
 
 #ifdef PLAIN
 static struct plain state;
-static void fresh(void) { plain_fresh(&state); }
+static void fresh(void) { plain_fresh(&state, later); }
 static size_t feed(const uint8_t *s, size_t n, int *reported) { return plain_feed(&state, s, n, report, area, reported); }
 static int silence(void) { return plain_silence(&state, report); }
 static void forget(uint8_t slot) { plain_forget(&state, slot); }
@@ -209,6 +211,7 @@ static size_t used_by(void (*work)(void))
 
 static int begin(int argc, char **argv)
 {
+    if (1 < argc && same(argv[1], "later")) later = 1, argc--, argv++;
     const char *mode = argc < 2 ? "" : argv[1];
 #ifndef PLAIN
     if (same(mode, "stacks")) {
@@ -222,7 +225,7 @@ static int begin(int argc, char **argv)
         return 0;
     }
     if (argc < 4) {
-        say("usage: bench reports FILE PIECE | stack FILE PIECE | run FILE PIECE RUNS | sizes\n");
+        say("usage: bench [later] reports FILE PIECE | stack FILE PIECE | run FILE PIECE RUNS | sizes\n");
         return 2;
     }
     load(argv[2]);

@@ -176,8 +176,8 @@ static int service_part(const uint8_t *s, size_t n, struct apdu *a)
     return 0;
 }
 
-/* 0, or the refusal number. */
-static int apdu_header(const uint8_t *s, size_t n, struct apdu *a)
+/* 0, or the refusal number. By the later edition bits 6 to 4 of a request's second octet are the segments accepted. */
+static int apdu_header(const uint8_t *s, size_t n, int later, struct apdu *a)
 {
     *a = (struct apdu){0};
     if (n == 0) return 20;
@@ -187,8 +187,8 @@ static int apdu_header(const uint8_t *s, size_t n, struct apdu *a)
     case 0:
         if (bits & 1 || (bits & 12) == 4) return 22;
         if (n < 2) return 20;
-        if (15 < s[1]) return 22;
-        if (5 < s[1]) return 23;
+        if ((later ? 7 : 0) < s[1] >> 4) return 22;
+        if (5 < (s[1] & 15)) return 23;
         if (n < 3) return 20;
         a->invoke = s[2];
         a->at = 3;
@@ -321,7 +321,7 @@ static int segment(struct plain *p, unsigned first, const struct apdu *a, const 
 static int apdu_frame(struct plain *p, const uint8_t *s, size_t n, uint8_t *r, uint8_t *area)
 {
     struct apdu a;
-    int refused = apdu_header(s, n, &a);
+    int refused = apdu_header(s, n, p->later, &a);
     if (refused) return refused;
     if (a.seg) return segment(p, s[0], &a, s + a.at, n - a.at, r, area);
     int items = plain_items(s + a.at, n - a.at);
@@ -403,9 +403,10 @@ static int octet(struct plain *p, uint8_t b)
     }
 }
 
-void plain_fresh(struct plain *p)
+void plain_fresh(struct plain *p, int later)
 {
     *p = (struct plain){0};
+    p->later = later != 0;
 }
 
 size_t plain_feed(struct plain *p, const uint8_t *piece, size_t n, uint8_t *report, uint8_t *area, int *reported)

@@ -11,13 +11,13 @@ struct plain_slot {
 };
 
 struct plain {
-    uint8_t phase, header_sum, type, destination, source;
+    uint8_t phase, header_sum, type, destination, source, later; /* later: the edition, 0 is 1995 */
     uint16_t data_sum, length, got;
     uint8_t store[501];
     struct plain_slot slots[4];
 };
 
-void plain_fresh(struct plain *p);
+void plain_fresh(struct plain *p, int later);
 
 /* Eats the piece through the first octet that causes a report, else all of it. Answers the octets eaten; `reported` says
    whether the 16 octets of `report` were written. `area` is 65,536 octets. */

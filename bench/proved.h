@@ -1,6 +1,6 @@
 /* The proved listener behind the names that bench.c calls: the library's calls on lent areas. */
 static uint8_t state[HB_STATE];
-static void fresh(void) { hb_fresh(state, HB_STATE); }
+static void fresh(void) { hb_fresh(state, HB_STATE, later); }
 #ifdef REPLAYED
 static void leave(int status);
 static size_t replay(const uint8_t *records, size_t n, int *reported)

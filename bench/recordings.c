@@ -7,6 +7,7 @@
      full          frames with 501 data octets
      segmented     logs on four keys at once, each of five segments
      damaged [N]   N-th random mixture of good, damaged, refused and segmented traffic, silences and forget orders
+     requests [N]  the same with more confirmed requests, most of them with a code of segments accepted (bits 6 to 4 of their second octet)
      flat N        one segmented message of N items side by side; a silence stands before its last segment
      nested N      the same, sixteen deep
      message N     one segmented message of N octets; the same */
@@ -294,12 +295,22 @@ static int some_network(uint8_t *s)
     return n;
 }
 
+static int coded; /* whether requests have codes of segments accepted */
+
+/* A request's second octet: the size code; where requests have codes, most often with one, now and then with bit 7 or another size code. */
+static uint8_t second(unsigned size)
+{
+    if (!coded || below(4) == 0) return (uint8_t)size;
+    unsigned code = below(15) ? below(8) : 8 + below(8);
+    return (uint8_t)(code << 4 | (below(15) ? size : below(16)));
+}
+
 static int some_apdu(uint8_t *s)
 {
-    unsigned kind = below(30) ? below(8) : below(16), bits = below(12) ? 0 : below(16);
+    unsigned kind = coded && below(2) ? 0 : below(30) ? below(8) : below(16), bits = below(12) ? 0 : below(16);
     int n = 1;
     s[0] = (uint8_t)(kind << 4 | bits);
-    if (kind == 0) s[n++] = (uint8_t)(below(20) ? below(6) : below(256));
+    if (kind == 0) s[n++] = second(below(20) ? below(6) : below(256));
     if (kind != 1) s[n++] = (uint8_t)below(4);
     if (kind == 0 || kind == 3)
         if (bits & 8) {
@@ -334,7 +345,7 @@ static int some_segment(uint8_t *s, int key)
     int length = text_length < 400 ? text_length : 400;
     int kind = key % 2 ? 0x30 : 0x00;
     s[n++] = (uint8_t)(kind | 8 | (more ? 4 : 0));
-    if (kind == 0) s[n++] = 5;
+    if (kind == 0) s[n++] = second(5);
     s[n++] = (uint8_t)(key / 2);
     s[n++] = (uint8_t)number;
     s[n++] = (uint8_t)(1 + below(127));
@@ -403,11 +414,12 @@ int main(int argc, char **argv)
     else if (!strcmp(name, "full")) full();
     else if (!strcmp(name, "segmented")) segmented();
     else if (!strcmp(name, "damaged")) damaged(n);
+    else if (!strcmp(name, "requests")) coded = 1, damaged(n);
     else if (!strcmp(name, "flat") && n <= 4096) flat(n);
     else if (!strcmp(name, "nested") && n <= 4096) nested(n);
     else if (!strcmp(name, "message") && n <= 16384) message(n);
     else {
-        fputs("usage: recordings [octets | raw] idle | readings | full | segmented | damaged [N] | flat N | nested N | message N\n", stderr);
+        fputs("usage: recordings [octets | raw] idle | readings | full | segmented | damaged [N] | requests [N] | flat N | nested N | message N\n", stderr);
         return 2;
     }
     return 0;

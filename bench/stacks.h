@@ -3,9 +3,9 @@ static uint8_t deep_state[HB_STATE], deep_fields[HB_NPDU], deep_out[HB_SLOT], de
 static size_t deep_number;
 static uint8_t deep_told;
 
-/* a network header with all its parts; a confirmed request in segments; sixteen groups, one in the other; an ack whose value has fifteen more in its group */
+/* a network header with all its parts; a confirmed request of the later edition in segments; sixteen groups, one in the other; an ack whose value has fifteen more in its group */
 static const uint8_t deep_npdu[] = {1, 0x28, 0, 5, 7, 1, 2, 3, 4, 5, 6, 7, 0, 9, 7, 1, 2, 3, 4, 5, 6, 7, 255};
-static const uint8_t deep_apdu[] = {0x0C, 5, 1, 0, 1, 12};
+static const uint8_t deep_apdu[] = {0x0C, 0x75, 1, 0, 1, 12};
 static uint8_t deep_items[2 * 16 + 5];
 static const uint8_t deep_target[] = {0x0C, 0, 0, 0, 1, 0x19, 0x55};
 static const uint8_t deep_real[] = {0x44, 0x42, 0x39, 0x99, 0x9A};
@@ -13,15 +13,15 @@ static uint8_t deep_ack[sizeof deep_target + sizeof deep_items];
 
 #define DEEP(name, call) \
     static void name(void) { call; }
-DEEP(deep_fresh, hb_fresh(deep_state, HB_STATE))
+DEEP(deep_fresh, hb_fresh(deep_state, HB_STATE, 1))
 DEEP(deep_silence, hb_silence(deep_state, HB_STATE, report, HB_REPORT, &deep_told))
 DEEP(deep_forget, hb_forget(deep_state, HB_STATE, 0))
 DEEP(deep_header_check, hb_header_check(deep_npdu, 5))
 DEEP(deep_data_check, hb_data_check(deep_npdu, sizeof deep_npdu))
 DEEP(deep_npdu_read, hb_npdu_read(deep_npdu, sizeof deep_npdu, deep_fields, HB_NPDU, &deep_number))
 DEEP(deep_npdu_write, hb_npdu_write(deep_fields, HB_NPDU, deep_out, sizeof deep_out, &deep_number))
-DEEP(deep_apdu_read, hb_apdu_read(deep_apdu, sizeof deep_apdu, deep_fields, HB_APDU, &deep_number))
-DEEP(deep_apdu_write, hb_apdu_write(deep_fields, HB_APDU, deep_out, sizeof deep_out, &deep_number))
+DEEP(deep_apdu_read, hb_apdu_read(deep_apdu, sizeof deep_apdu, 1, deep_fields, HB_APDU, &deep_number))
+DEEP(deep_apdu_write, hb_apdu_write(deep_fields, HB_APDU, 1, deep_out, sizeof deep_out, &deep_number))
 DEEP(deep_items_count, hb_items_count(deep_items, sizeof deep_items, &deep_number))
 DEEP(deep_items_list, hb_items_list(deep_items, sizeof deep_items, deep_list, sizeof deep_list, &deep_number))
 DEEP(deep_item_next, hb_item_next(deep_items, sizeof deep_items, 0, &deep_number))

@@ -2,7 +2,7 @@
    property value that a chamber reports goes to standard output. The firmware would say hb_silence when its timer says that the line fell silent; here
    the end of the input is the only silence.
 
-     box [LUMP]     LUMP: the most octets of a lump, 1 to 4096; 64 if it is left out
+     box [LUMP [later]]     LUMP: the most octets of a lump, 1 to 4096; 64 if it is left out; `later`: confirmed requests by the later edition
 
    Build it for x86-64 beside the archive that `rt staticlib hitchbarley` writes:
      cc -O2 -Iinclude examples/box.c target/staticlib/libhitchbarley.a -o box */
@@ -12,6 +12,7 @@
 #include "hitchbarley.h"
 
 static uint8_t state[HB_STATE], area[HB_AREA], report[HB_REPORT];
+static uint8_t later; /* the trunk's edition: 0 is 1995 */
 
 static void octets(const uint8_t *s, size_t n)
 {
@@ -68,7 +69,7 @@ static void parameters(size_t length)
     size_t frame = number(state + HB_HEAD + 3, 2), apdu, params;
     if (report[0] == 5) ack(area + (size_t)HB_SLOT * report[7], length);
     else if (!hb_npdu_read(state + HB_FRAME, frame, fields, HB_NPDU, &apdu)
-        && !hb_apdu_read(state + HB_FRAME + apdu, frame - apdu, fields, HB_APDU, &params))
+        && !hb_apdu_read(state + HB_FRAME + apdu, frame - apdu, later, fields, HB_APDU, &params))
         ack(state + HB_FRAME + apdu + params, frame - apdu - params);
 }
 
@@ -109,11 +110,12 @@ int main(int argc, char **argv)
     static uint8_t buffer[4096];
     size_t most = argc < 2 ? 64 : (size_t)atoi(argv[1]), n;
     uint8_t reported;
-    if (2 < argc || most < 1 || sizeof buffer < most) {
-        fputs("usage: box [LUMP] <CAPTURE, LUMP from 1 to 4096\n", stderr);
+    later = argc == 3 && !strcmp(argv[2], "later");
+    if (2 + later < argc || most < 1 || sizeof buffer < most) {
+        fputs("usage: box [LUMP [later]] <CAPTURE, LUMP from 1 to 4096\n", stderr);
         return 2;
     }
-    if (refused(hb_fresh(state, HB_STATE))) return 1;
+    if (refused(hb_fresh(state, HB_STATE, later))) return 1;
     while ((n = fread(buffer, 1, most, stdin)) > 0)
         if (lump(buffer, n)) return 1;
     if (ferror(stdin)) {

@@ -72,8 +72,8 @@ static void trunk(void)
     size_t eaten;
     uint8_t reported, piece = 0x55;
 
-    want(hb_fresh(state, HB_STATE) == 0);
-    want(hb_fresh(state, HB_STATE - 1) == HB_NO_AREA);
+    want(hb_fresh(state, HB_STATE, 0) == 0);
+    want(hb_fresh(state, HB_STATE - 1, 0) == HB_NO_AREA);
     tell("hb_fresh");
 
     feed(of("55 FF 01 02 01 00 00 F5"), "01 00 01 02 01 00 00 00 00 00 00 00 00 00 00 00");
@@ -86,7 +86,7 @@ static void trunk(void)
     want(hb_silence(state, HB_STATE, report, HB_REPORT, &reported) == HB_NO_STATE && hb_forget(state, HB_STATE, 0) == HB_NO_STATE);
     tell("hb_feed");
 
-    want(hb_fresh(state, HB_STATE) == 0);
+    want(hb_fresh(state, HB_STATE, 0) == 0);
     want(hb_silence(state, HB_STATE, report, HB_REPORT, &reported) == 0 && reported == 0);
     feed(of("55 FF 06 FF 01 00 15 8E 01 20 FF FF 00 FF 10 08 15 B6"), NULL);
     want(hb_silence(state, HB_STATE, report, HB_REPORT, &reported) == 0 && reported == 1);
@@ -106,6 +106,30 @@ static void trunk(void)
     feed(framed("06 01 03 00 0E", "01 00 38 00 01 01 0C 3E 44 42 39 99 9A 3F"), "05 00 06 01 03 38 00 00 00 00 00 0E 0C 00 00 00");
     want_octets(area, 14, of("0C 00 00 00 01 19 55 3E 44 42 39 99 9A 3F"));
     tell("a message in two segments");
+}
+
+/* A ReadProperty request that accepts 2 segments, on a trunk of an edition, also behind a silence and a forget order: they leave the edition as it is. */
+static void request(uint8_t later, const char *reports)
+{
+    uint8_t reported;
+    want(hb_fresh(state, HB_STATE, later) == 0);
+    feed(framed("05 03 01 00 0D", "01 04 00 15 01 0C 0C 00 00 00 01 19 55"), reports);
+    want(hb_silence(state, HB_STATE, report, HB_REPORT, &reported) == 0 && hb_forget(state, HB_STATE, 0) == HB_NOT_OPEN);
+    feed(framed("05 03 01 00 0D", "01 04 00 15 01 0C 0C 00 00 00 01 19 55"), reports);
+}
+
+static void editions(void)
+{
+    size_t eaten;
+    uint8_t reported, piece = 0x55;
+    request(0, "06 16 05 03 01 00 00 00 00 00 00 00 00 00 00 00");
+    request(1, "03 00 05 03 01 00 01 00 00 00 00 0B 0C 00 00 00");
+    request(255, "03 00 05 03 01 00 01 00 00 00 00 0B 0C 00 00 00");
+    want(state[510] == 1); /* the edition's octet: 0 or 1 */
+    state[510] = 2;
+    want(hb_feed(state, HB_STATE, &piece, 1, report, HB_REPORT, area, HB_AREA, &eaten, &reported) == HB_NO_STATE && eaten == 0 && reported == 0);
+    want(hb_feed(state, 546, &piece, 1, report, HB_REPORT, area, HB_AREA, &eaten, &reported) == HB_NO_AREA && eaten == 0 && reported == 0);
+    tell("a trunk of either edition");
 }
 
 /* ---- a recorded trunk ---- */
@@ -131,7 +155,7 @@ static void recorded(void)
     size_t eaten;
     uint8_t reported;
 
-    want(hb_fresh(state, HB_STATE) == 0);
+    want(hb_fresh(state, HB_STATE, 0) == 0);
     replayed(r.s, r.n, 0, 11, "01 00 01 02 01 00 00 00 00 00 00 00 00 00 00 00");
     replayed(r.s + 11 * HB_RECORD, r.n - 11 * HB_RECORD, 0, 4, "02 04 00 00 00 00 00 00 00 00 00 00 00 00 00 00");
     replayed(r.s + 15 * HB_RECORD, HB_RECORD, HB_BAD_RECORD, 0, NULL);
@@ -203,15 +227,27 @@ static const struct header npdus[] = {
     {"01 88 00 02 01 15 01 00 02", 7, "01 00 01 00 00 00 00 00 00 00 00 00 00 00 00 00 02 01 15 00 00 00 00 00 00 00 01 00 00"},
 };
 
-static const struct header apdus[] = {
-    {"02 03 00 0C 0C 00 00 00 01 19 55", 4, "00 00 00 01 00 00 03 00 00 00 0C 00"},
-    {"10 08", 2, "01 00 00 00 00 00 00 00 00 00 08 00"},
-    {"20 05 0F", 3, "02 00 00 00 00 00 00 05 00 00 0F 00"},
-    {"30 00 0C 0C 00 00 00 01 19 55 3E 44 42 39 99 9A 3F", 3, "03 00 00 00 00 00 00 00 00 00 0C 00"},
-    {"50 05 0F 91 01 91 1F", 3, "05 00 00 00 00 00 00 05 00 00 0F 00"},
-    {"60 06 04", 3, "06 00 00 00 00 00 00 06 00 00 00 04"},
-    {"71 06 02", 3, "07 00 00 00 00 01 00 06 00 00 00 02"},
+static const struct header apdus[] = { /* the same by both editions */
+    {"02 03 00 0C 0C 00 00 00 01 19 55", 4, "00 00 00 01 00 00 03 00 00 00 0C 00 00"},
+    {"10 08", 2, "01 00 00 00 00 00 00 00 00 00 08 00 00"},
+    {"20 05 0F", 3, "02 00 00 00 00 00 00 05 00 00 0F 00 00"},
+    {"30 00 0C 0C 00 00 00 01 19 55 3E 44 42 39 99 9A 3F", 3, "03 00 00 00 00 00 00 00 00 00 0C 00 00"},
+    {"50 05 0F 91 01 91 1F", 3, "05 00 00 00 00 00 00 05 00 00 0F 00 00"},
+    {"60 06 04", 3, "06 00 00 00 00 00 00 06 00 00 00 04 00"},
+    {"71 06 02", 3, "07 00 00 00 00 01 00 06 00 00 00 02 00"},
 };
+
+static const struct header later_apdus[] = { /* 22 by the edition of 1995; codes 1, 7 and, in a segment, 2 */
+    {"00 15 01 0C", 4, "00 00 00 00 00 00 05 01 00 00 0C 00 01"},
+    {"00 75 01 0C", 4, "00 00 00 00 00 00 05 01 00 00 0C 00 07"},
+    {"0C 25 07 00 02 0C", 6, "00 01 01 00 00 00 05 07 00 02 0C 00 02"},
+};
+
+/* The calls by either edition. */
+static uint8_t read_first(const uint8_t *s, size_t n, uint8_t *fields, size_t size, size_t *next) { return hb_apdu_read(s, n, 0, fields, size, next); }
+static uint8_t read_later(const uint8_t *s, size_t n, uint8_t *fields, size_t size, size_t *next) { return hb_apdu_read(s, n, 1, fields, size, next); }
+static uint8_t write_first(const uint8_t *s, size_t n, uint8_t *out, size_t size, size_t *wrote) { return hb_apdu_write(s, n, 0, out, size, wrote); }
+static uint8_t write_later(const uint8_t *s, size_t n, uint8_t *out, size_t size, size_t *wrote) { return hb_apdu_write(s, n, 1, out, size, wrote); }
 
 static void headers_read(reader *read, const struct header *h, size_t count, const char *bad, uint8_t number)
 {
@@ -245,6 +281,29 @@ static void headers_written(writer *write, const struct header *h, size_t count,
         r.s[place] = value;
         want(write(r.s, r.n, out, sizeof out, &wrote) == number && wrote == 0);
     }
+}
+
+/* What the editions answer to the same octets and records: 22 and then 23 within the second octet; a code that the edition lacks. */
+static void editions_compared(void)
+{
+    static const struct { const char *octets; uint8_t first, later; } second[] = {
+        {"00 15 01 0C", HB_APDU_BITS, 0}, {"00 16 01 0C", HB_APDU_BITS, HB_APDU_SIZE}, {"00 85 01 0C", HB_APDU_BITS, HB_APDU_BITS},
+        {"00 F5 01 0C", HB_APDU_BITS, HB_APDU_BITS}, {"00 06 01 0C", HB_APDU_SIZE, HB_APDU_SIZE}, {"00 05 01 0C", 0, 0}};
+    static const struct { uint8_t code, first, later; } codes[] = {
+        {0, 0, 0}, {1, HB_APDU_BITS, 0}, {7, HB_APDU_BITS, 0}, {8, HB_APDU_BITS, HB_APDU_BITS}, {255, HB_APDU_BITS, HB_APDU_BITS}};
+    uint8_t fields[HB_APDU], out[8];
+    size_t n;
+    for (size_t i = 0; i < sizeof second / sizeof *second; i++) {
+        struct octets o = of(second[i].octets);
+        want(read_first(o.s, o.n, fields, HB_APDU, &n) == second[i].first && read_later(o.s, o.n, fields, HB_APDU, &n) == second[i].later);
+        want(hb_apdu_read(o.s, o.n, 255, fields, HB_APDU, &n) == second[i].later);
+    }
+    for (size_t i = 0; i < sizeof codes / sizeof *codes; i++) {
+        struct octets r = of(apdus[0].record);
+        r.s[12] = codes[i].code;
+        want(write_first(r.s, r.n, out, sizeof out, &n) == codes[i].first && write_later(r.s, r.n, out, sizeof out, &n) == codes[i].later);
+    }
+    tell("hb_apdu_read and hb_apdu_write by both editions");
 }
 
 /* ---- tag items: the parameters of the ReadProperty ack of 004 ---- */
@@ -346,16 +405,22 @@ static void services_tried(void)
 int main(void)
 {
     trunk();
+    editions();
     recorded();
     sums();
     headers_read(hb_npdu_read, npdus, sizeof npdus / sizeof *npdus, "02 00", HB_NPDU_VERSION);
     tell("hb_npdu_read");
     headers_written(hb_npdu_write, npdus, sizeof npdus / sizeof *npdus, 4, 4, HB_NPDU_CONTROL);
     tell("hb_npdu_write");
-    headers_read(hb_apdu_read, apdus, sizeof apdus / sizeof *apdus, "80 00", HB_APDU_TYPE);
+    headers_read(read_first, apdus, sizeof apdus / sizeof *apdus, "80 00", HB_APDU_TYPE);
+    headers_read(read_later, apdus, sizeof apdus / sizeof *apdus, "80 00", HB_APDU_TYPE);
+    headers_read(read_later, later_apdus, sizeof later_apdus / sizeof *later_apdus, "00 85", HB_APDU_BITS);
     tell("hb_apdu_read");
-    headers_written(hb_apdu_write, apdus, sizeof apdus / sizeof *apdus, 0, 8, HB_APDU_TYPE);
+    headers_written(write_first, apdus, sizeof apdus / sizeof *apdus, 0, 8, HB_APDU_TYPE);
+    headers_written(write_later, apdus, sizeof apdus / sizeof *apdus, 0, 8, HB_APDU_TYPE);
+    headers_written(write_later, later_apdus, sizeof later_apdus / sizeof *later_apdus, 12, 8, HB_APDU_BITS);
     tell("hb_apdu_write");
+    editions_compared();
     items();
     services_tried();
     return differs;

@@ -14,7 +14,7 @@ fn trunk() -> bool {
     let frame = of("55 FF 01 02 01 00 00 F5");
     let (mut eaten, mut reported, mut spoke) = (0, 0, 1);
     unsafe {
-        hb_fresh(state.as_mut_ptr(), state.len()) == 0
+        hb_fresh(state.as_mut_ptr(), state.len(), 0) == 0
             && hb_feed(
                 state.as_mut_ptr(),
                 state.len(),
@@ -62,7 +62,7 @@ fn recorded() -> bool {
     let mut tape = vec![2, 4, 0, 0];
     tape.extend(frame.iter().flat_map(|x| [0, *x, 0, 0]));
     tape.extend([1, 0, 0, 0, 3, 0, 0, 0]);
-    let fresh = unsafe { hb_fresh(state.as_mut_ptr(), state.len()) };
+    let fresh = unsafe { hb_fresh(state.as_mut_ptr(), state.len(), 0) };
     fresh == 0
         && replay(&mut state, &mut area, &mut report, &tape) == (0, 9, 1)
         && report[..] == of("01 00 01 02 01 00 00 00 00 00 00 00 00 00 00 00")[..]
@@ -95,6 +95,32 @@ fn header(read: Read, write: Read, octets: &str, next: usize, record: &str) -> b
     answered && (reached, wrote) == (next, next) && fields == wanted && out[..next] == o[..next]
 }
 
+// A confirmed request that accepts 2 segments: 22 by the edition of 1995; by the later one a header, written back.
+fn editions() -> bool {
+    let (o, wanted) = (of("00 15 01 0C"), of("00 00 00 00 00 00 05 01 00 00 0C 00 01"));
+    let (mut fields, mut out, mut next, mut wrote) = ([0u8; HB_APDU], [0u8; 4], 0, 0);
+    unsafe {
+        hb_apdu_read(o.as_ptr(), o.len(), 0, fields.as_mut_ptr(), fields.len(), &mut next) == HB_APDU_BITS
+            && next == 0
+            && hb_apdu_read(o.as_ptr(), o.len(), 1, fields.as_mut_ptr(), fields.len(), &mut next) == 0
+            && next == 4
+            && fields[..] == wanted[..]
+            && hb_apdu_write(fields.as_ptr(), fields.len(), 0, out.as_mut_ptr(), out.len(), &mut wrote) == HB_APDU_BITS
+            && wrote == 0
+            && hb_apdu_write(fields.as_ptr(), fields.len(), 1, out.as_mut_ptr(), out.len(), &mut wrote) == 0
+            && out[..wrote] == o[..]
+    }
+}
+
+// The APDU calls by the edition of 1995.
+unsafe extern "C" fn apdu_read(s: *const u8, n: usize, fields: *mut u8, size: usize, next: *mut usize) -> u8 {
+    unsafe { hb_apdu_read(s, n, 0, fields, size, next) }
+}
+
+unsafe extern "C" fn apdu_write(s: *const u8, n: usize, out: *mut u8, size: usize, wrote: *mut usize) -> u8 {
+    unsafe { hb_apdu_write(s, n, 0, out, size, wrote) }
+}
+
 // The items of a ReadProperty ack, and the service.
 fn params() -> bool {
     let o = of("0C 00 00 00 01 19 55 3E 44 42 39 99 9A 3F");
@@ -123,7 +149,8 @@ fn main() {
         && recorded()
         && sums()
         && header(hb_npdu_read, hb_npdu_write, "01 20 FF FF 00 FF 10 08", 6, npdu)
-        && header(hb_apdu_read, hb_apdu_write, "02 03 00 0C 0C 00 00 00 01 19 55", 4, "00 00 00 01 00 00 03 00 00 00 0C 00")
+        && header(apdu_read, apdu_write, "02 03 00 0C 0C 00 00 00 01 19 55", 4, "00 00 00 01 00 00 03 00 00 00 0C 00 00")
+        && editions()
         && params();
     std::process::exit(!good as i32);
 }

@@ -7,12 +7,18 @@
    is not null by the language's rules: pass the address of any octet. (A null pointer with length 0 was tried in 18 calls and did no harm; nothing promises it.)
 
    Numbers. Every call but the check sums answers 0 or the number of a refusal. On a refusal no area changes, and every number given back is 0. So after 59,
-   60 and 68 *eaten is 0, and so it is after a 67 that is offered again: a loop that offers the rest of its piece must look at the answer, or it never ends. 60 is a mistake in the program, an area of another
-   size. 59 is a state area that was not made by hb_fresh or was written by somebody else: make it anew by hb_fresh; what was half received is lost, and only that.
+   60 and 68 *eaten is 0, and so it is after a 67 that is offered again: a loop that offers the rest of its piece must look at the answer, or it never ends.
+   60 is a mistake in the program, an area of another size: also a state that an older version left, of 546 octets. 59 is a state area that was not made by
+   hb_fresh or was written by somebody else: make it anew by hb_fresh; what was half received is lost, and only that.
    hb_replay's 67 is the one exception: the records before the bad one were eaten, state and message area are as after them, *eaten is their number; the report
    area is as it was and *reported is 0.
 
-   Stack. Measured, in octets: hb_replay 4,144; hb_feed 3,840; hb_service_read 3,264; hb_items_list 3,008; hb_item_step 2,992; hb_items_count 2,976;
+   Editions. Confirmed requests are read and written by the edition of 1995, or by the later one, which uses bits 6 to 4 of their second octet for the
+   segments that the sender accepts (the table at hb_apdu_read); by that of 1995 these bits are zero bits, and 22 where they are not. The argument `later`
+   chooses: 0 is 1995, any other number the later edition. A trunk's edition is chosen at hb_fresh and kept in its state; no call changes it. Read a header
+   that stands in the state area by the edition that the trunk has. The editions differ in those three bits and nowhere else.
+
+   Stack. Measured, in octets: hb_replay 4,160; hb_feed 3,840; hb_service_read 3,264; hb_items_list 3,008; hb_item_step 2,992; hb_items_count 2,976;
    hb_item_next 2,944; hb_service_write 1,200; every other call below 500 (docs/PERFORMANCE.md).
 
    What each call promises is proved; its statement stands in crates/hitchbarley/src, with the definitions in specs. */
@@ -21,7 +27,7 @@
 #include <stddef.h>
 #include <stdint.h>
 
-#define HB_VERSION "1.2"
+#define HB_VERSION "1.3"
 #define HB_KIT "rattle-kit-5" /* the release that this version is proved and compiled with */
 
 #ifdef __cplusplus
@@ -29,12 +35,12 @@ extern "C" {
 #endif
 
 enum {
-    HB_STATE = 546,  /* octets of a trunk's state */
+    HB_STATE = 547,  /* octets of a trunk's state */
     HB_REPORT = 16,  /* octets of a report */
     HB_AREA = 65536, /* octets of the message area: four slots */
     HB_SLOT = 16384, /* octets of a slot in it: slot s stands from HB_SLOT * s on */
     HB_NPDU = 29,    /* octets of a network header's record */
-    HB_APDU = 12,    /* octets of an APDU header's record */
+    HB_APDU = 13,    /* octets of an APDU header's record */
     HB_ITEM = 12,    /* octets of an item's record */
     HB_SERVICE = 26, /* octets of a service's record */
     HB_RECORD = 4,   /* octets of a recorded trunk's record */
@@ -63,7 +69,7 @@ enum {
     /* APDU header */
     HB_APDU_ENDS = 20, /* ends early */
     HB_APDU_TYPE = 21, /* type 8 to 15; to write, above 7 */
-    HB_APDU_BITS = 22, /* zero bit set, or MOR without SEG */
+    HB_APDU_BITS = 22, /* zero bit set, or MOR without SEG; to write, a code of segments accepted above 7, by 1995 above 0 */
     HB_APDU_SIZE = 23, /* size code above 5, or window not 1 to 127 */
     HB_APDU_OVER = 24, /* octets left over */
 
@@ -108,8 +114,8 @@ enum {
 
 /* ---- a trunk ---- */
 
-/* Makes a fresh state: 0 or 60. */
-uint8_t hb_fresh(uint8_t *state, size_t state_len);
+/* Makes a fresh state of an edition, which it keeps: 0 or 60. */
+uint8_t hb_fresh(uint8_t *state, size_t state_len, uint8_t later);
 
 /* Eats a piece's octets through the first that causes a report, else all: 0, 60 or 59. *eaten octets were eaten; *reported is 1 where a report was
    written. Offer the rest of the piece again. A report, where what a kind does not fill is 0:
@@ -125,8 +131,8 @@ uint8_t hb_fresh(uint8_t *state, size_t state_len);
           7    7             x           x            x                                    octets behind the message type (and vendor)
    Kinds: 1 frame of another type than 5 and 6; 2 damage; 3 unsegmented APDU; 4 segment with MOR taken; 5 message complete; 6 refused; 7 network message.
    A completed message, its parameters alone and no header, stands in the message area from HB_SLOT * slot on until the next call. The parameters of an
-   unsegmented APDU stand in the state area: hb_npdu_read at HB_FRAME gives the place of the APDU, hb_apdu_read there the place of its parameters. Either goes to
-   hb_service_read with report[5] >> 4 as its kind and report[12] as its choice. examples/box.c does both.
+   unsegmented APDU stand in the state area: hb_npdu_read at HB_FRAME gives the place of the APDU, hb_apdu_read there, by the trunk's edition, the place of
+   its parameters. Either goes to hb_service_read with report[5] >> 4 as its kind and report[12] as its choice. examples/box.c does both.
    The worst single call is the one whose octet completes a message of 2,048 items (docs/PERFORMANCE.md). */
 uint8_t hb_feed(uint8_t *state, size_t state_len, const uint8_t *piece, size_t piece_len, uint8_t *report, size_t report_len, uint8_t *area, size_t area_len,
     size_t *eaten, uint8_t *reported);
@@ -171,15 +177,17 @@ uint8_t hb_npdu_read(const uint8_t *octets, size_t octets_len, uint8_t *fields, 
    Any flag but 0 is set; fields of an absent part are not looked at. */
 uint8_t hb_npdu_write(const uint8_t *fields, size_t fields_len, uint8_t *out, size_t out_len, size_t *wrote);
 
-/* The header of an APDU: 0, 60 or 20 to 24; *next is the place where its parameters begin. Its record:
+/* The header of an APDU, by an edition: 0, 60 or 20 to 24; *next is the place where its parameters begin. Its record:
      0  PDU type, 0 to 7     1  SEG     2  MOR     3  SA     4  NAK     5  SRV (1 or 0 each)
      6  size code     7  invoke ID     8  number     9  window     10  service choice     11  reason
-   What the kind of PDU lacks is read as 0. Types: 0 confirmed request, 1 unconfirmed request, 2 simple ack, 3 complex ack, 4 segment ack, 5 error,
-   6 reject, 7 abort. */
-uint8_t hb_apdu_read(const uint8_t *octets, size_t octets_len, uint8_t *fields, size_t fields_len, size_t *next);
+     12  segments accepted, a code: 0 unspecified, 1 for 2, 2 for 4, 3 for 8, 4 for 16, 5 for 32, 6 for 64, 7 for more than 64; by 1995 always 0
+   What the kind of PDU lacks is read as 0; a size code and a code of segments accepted are a confirmed request's alone. Types: 0 confirmed request,
+   1 unconfirmed request, 2 simple ack, 3 complex ack, 4 segment ack, 5 error, 6 reject, 7 abort. */
+uint8_t hb_apdu_read(const uint8_t *octets, size_t octets_len, uint8_t later, uint8_t *fields, size_t fields_len, size_t *next);
 
-/* The octets of the header that a record is: 0, 60, 21, 22, 23 or 61; *wrote octets were written. What the kind of PDU lacks is not looked at. */
-uint8_t hb_apdu_write(const uint8_t *fields, size_t fields_len, uint8_t *out, size_t out_len, size_t *wrote);
+/* The octets of the header that a record is, by an edition: 0, 60, 21, 22, 23 or 61; *wrote octets were written. What the kind of PDU lacks is not looked
+   at. A code above 7 is 22, and by 1995 every code but 0. */
+uint8_t hb_apdu_write(const uint8_t *fields, size_t fields_len, uint8_t later, uint8_t *out, size_t out_len, size_t *wrote);
 
 /* ---- tag items ---- */
 

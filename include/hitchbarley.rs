@@ -7,12 +7,12 @@
 //!     rustc -L target/staticlib -l static=hitchbarley
 #![allow(dead_code)]
 
-pub const HB_VERSION: &str = "1.2";
+pub const HB_VERSION: &str = "1.3";
 /// the release that this version is proved and compiled with
 pub const HB_KIT: &str = "rattle-kit-5";
 
 /// octets of a trunk's state; crates/state/specs/Layout.antt has the layout
-pub const HB_STATE: usize = 546;
+pub const HB_STATE: usize = 547;
 /// octets of a report
 pub const HB_REPORT: usize = 16;
 /// octets of the message area: four slots of 16,384
@@ -22,7 +22,7 @@ pub const HB_SLOT: usize = 16384;
 /// octets of a network header's record
 pub const HB_NPDU: usize = 29;
 /// octets of an APDU header's record
-pub const HB_APDU: usize = 12;
+pub const HB_APDU: usize = 13;
 /// octets of an item's record
 pub const HB_ITEM: usize = 12;
 /// octets of a service's record
@@ -61,7 +61,7 @@ pub const HB_NPDU_NETWORK: u8 = 14;
 pub const HB_APDU_ENDS: u8 = 20;
 /// type 8 to 15; to write, above 7
 pub const HB_APDU_TYPE: u8 = 21;
-/// zero bit set, or MOR without SEG
+/// zero bit set, or MOR without SEG; to write, a code of segments accepted above 7, by 1995 above 0
 pub const HB_APDU_BITS: u8 = 22;
 /// size code above 5, or window not 1 to 127
 pub const HB_APDU_SIZE: u8 = 23;
@@ -134,7 +134,7 @@ pub const HB_BAD_RECORD: u8 = 67;
 pub const HB_ODD: u8 = 68;
 
 unsafe extern "C" {
-    pub fn hb_fresh(state: *mut u8, state_len: usize) -> u8;
+    pub fn hb_fresh(state: *mut u8, state_len: usize, later: u8) -> u8;
     pub fn hb_feed(
         state: *mut u8,
         state_len: usize,
@@ -167,8 +167,8 @@ unsafe extern "C" {
     pub fn hb_data_run(reg: u16, part: *const u8, part_len: usize) -> u16;
     pub fn hb_npdu_read(octets: *const u8, octets_len: usize, fields: *mut u8, fields_len: usize, next: *mut usize) -> u8;
     pub fn hb_npdu_write(fields: *const u8, fields_len: usize, out: *mut u8, out_len: usize, wrote: *mut usize) -> u8;
-    pub fn hb_apdu_read(octets: *const u8, octets_len: usize, fields: *mut u8, fields_len: usize, next: *mut usize) -> u8;
-    pub fn hb_apdu_write(fields: *const u8, fields_len: usize, out: *mut u8, out_len: usize, wrote: *mut usize) -> u8;
+    pub fn hb_apdu_read(octets: *const u8, octets_len: usize, later: u8, fields: *mut u8, fields_len: usize, next: *mut usize) -> u8;
+    pub fn hb_apdu_write(fields: *const u8, fields_len: usize, later: u8, out: *mut u8, out_len: usize, wrote: *mut usize) -> u8;
     pub fn hb_items_count(octets: *const u8, octets_len: usize, count: *mut usize) -> u8;
     pub fn hb_items_list(octets: *const u8, octets_len: usize, listed: *mut u8, listed_len: usize, count: *mut usize) -> u8;
     pub fn hb_item_next(octets: *const u8, octets_len: usize, at: usize, next: *mut usize) -> u8;

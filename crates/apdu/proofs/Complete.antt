@@ -1,5 +1,5 @@
 -- A header that keeps the rules is read as itself, whatever parameters follow.
-use Prim.Native.Nat.{ℕ, _+_, _%_, _<_}
+use Prim.Native.Nat.{ℕ, _+_, _*_, _/_, _%_, _<_}
 use native.Mathlib.Omega.{arith}
 use mathlib.Core.Path.{_≡_, refl, sym, _∙_}
 use mathlib.Core.Bool.{Bool, true, false}
@@ -11,6 +11,7 @@ use borrow.Author.Tests.{le-ltb, lt-leb, ne-eqb}
 use Rattle.octets.specs.Choice.{given}
 use Rattle.octets.specs.Reading.{oct}
 use Rattle.octets.specs.Has.{Has, all-has, has-left, has-right}
+use Rattle.apdu.specs.declared.Edition.{Edition}
 use Rattle.apdu.specs.declared.Segment.{Segment}
 use Rattle.apdu.specs.declared.RequestPdu.{RequestPdu}
 use Rattle.apdu.specs.declared.ComplexAckPdu.{ComplexAckPdu}
@@ -24,8 +25,9 @@ use Rattle.apdu.specs.declared.Pdu.{Pdu}
 use Rattle.apdu.specs.declared.Pdu.the-variants.{Request, Unconfirmed, SimpleAck, ComplexAck, SegmentAck, Error, Reject, Abort}
 use Rattle.apdu.specs.declared.Answer.the-variants.{Good}
 use Rattle.apdu.specs.declared.kinds.Tail.the-variants.{Part}
+use Rattle.apdu.specs.Editions.{most}
 use Rattle.apdu.specs.Reading.{readApdu, readTail, readRequest, readUnconfirmed, readSimpleAck, readComplexAck, readSegmentAck, readError, readReject, readAbort, bit3, bit2}
-use Rattle.apdu.specs.Layout.{segment, flag, firstOctet, tail, header}
+use Rattle.apdu.specs.Layout.{segment, flag, firstOctet, sizeOctet, tail, header}
 use Rattle.apdu.specs.Valid.{SegmentRules, Rules, Follows}
 use Rattle.apdu.proofs.FirstOctet.{parts-of, below3, below2, below1, below0, mor-with-seg}
 
@@ -55,88 +57,93 @@ tail-at s at false mor number window choice r e d h =
 tail-back : (s : List ℕ) (at : ℕ) (g : Segment) (choice : ℕ) → SegmentRules g → bit3 (oct s 0) ≡ g .seg → bit2 (oct s 0) ≡ g .mor → Has s at (tail g choice) → readTail s at ≡ Part g choice
 tail-back s at g choice = tail-at s at (g .seg) (g .mor) (g .number) (g .window) choice
 
-request : (p : RequestPdu) (t : List ℕ) → Rules (Request p) → readApdu (header (Request p) ++ t) ≡ Good (Request p)
-unfolding readApdu readRequest
-request p t r =
-    let g = p .segment in
-    let f = parts-of 0 (g .seg) (g .mor) (p .sa) false in
-    let x = firstOctet 0 (g .seg) (g .mor) (p .sa) false in
-    let front : List ℕ = x ∷ p .size ∷ p .invoke ∷ [] in
-    let s : List ℕ = header (Request p) ++ t in
-    simp (
-      there front (tail g (p .choice) ++ t) 0 (omega arith),
-      there front (tail g (p .choice) ++ t) 1 (omega arith),
-      there front (tail g (p .choice) ++ t) 2 (omega arith),
-      f .kind,
-      le-ltb 0 (x % 2) (omega (arith, below0 x (f .last))),
-      mor-with-seg x (λ m. f .third ∙ r .1 .more (sym (f .second) ∙ m)),
-      le-ltb 15 (p .size) (omega arith),
-      le-ltb 5 (p .size) (r .0),
-      f .first,
-      tail-back s 3 g (p .choice) (r .1) (f .third) (f .second) (after front (tail g (p .choice)) t),
-    )
+module _ (edition : Edition) where
+  request : (p : RequestPdu) (t : List ℕ) → Rules edition (Request p) → readApdu edition (header (Request p) ++ t) ≡ Good (Request p)
+  unfolding readApdu readRequest
+  request p t r =
+      let g = p .segment in
+      let f = parts-of 0 (g .seg) (g .mor) (p .sa) false in
+      let x = firstOctet 0 (g .seg) (g .mor) (p .sa) false in
+      let front : List ℕ = x ∷ sizeOctet p ∷ p .invoke ∷ [] in
+      let s : List ℕ = header (Request p) ++ t in
+      let code : (p .accepts * 16 + p .size) / 16 ≡ p .accepts = omega (arith, r .1) in
+      let size : (p .accepts * 16 + p .size) % 16 ≡ p .size = omega (arith, r .1) in
+      simp (
+        there front (tail g (p .choice) ++ t) 0 (omega arith),
+        there front (tail g (p .choice) ++ t) 1 (omega arith),
+        there front (tail g (p .choice) ++ t) 2 (omega arith),
+        f .kind,
+        le-ltb 0 (x % 2) (omega (arith, below0 x (f .last))),
+        mor-with-seg x (λ m. f .third ∙ r .2 .more (sym (f .second) ∙ m)),
+        code,
+        size,
+        le-ltb (most edition) (p .accepts) (r .0),
+        le-ltb 5 (p .size) (r .1),
+        f .first,
+        tail-back s 3 g (p .choice) (r .2) (f .third) (f .second) (after front (tail g (p .choice)) t),
+      )
 
-unconfirmed : (p : UnconfirmedPdu) (t : List ℕ) → readApdu (header (Unconfirmed p) ++ t) ≡ Good (Unconfirmed p)
-unfolding readApdu readUnconfirmed firstOctet flag given
-unconfirmed p t = let o = header (Unconfirmed p) in simp (there o t 0 (omega arith), there o t 1 (omega arith))
+  unconfirmed : (p : UnconfirmedPdu) (t : List ℕ) → readApdu edition (header (Unconfirmed p) ++ t) ≡ Good (Unconfirmed p)
+  unfolding readApdu readUnconfirmed firstOctet flag given
+  unconfirmed p t = let o = header (Unconfirmed p) in simp (there o t 0 (omega arith), there o t 1 (omega arith))
 
-simple-ack : (p : SimpleAckPdu) → readApdu (header (SimpleAck p)) ≡ Good (SimpleAck p)
-unfolding readApdu readSimpleAck firstOctet flag given
-simple-ack p = refl
+  simple-ack : (p : SimpleAckPdu) → readApdu edition (header (SimpleAck p)) ≡ Good (SimpleAck p)
+  unfolding readApdu readSimpleAck firstOctet flag given
+  simple-ack p = refl
 
-complex-ack : (p : ComplexAckPdu) (t : List ℕ) → Rules (ComplexAck p) → readApdu (header (ComplexAck p) ++ t) ≡ Good (ComplexAck p)
-unfolding readApdu readComplexAck
-complex-ack p t r =
-    let g = p .segment in
-    let f = parts-of 3 (g .seg) (g .mor) false false in
-    let x = firstOctet 3 (g .seg) (g .mor) false false in
-    let front : List ℕ = x ∷ p .invoke ∷ [] in
-    let s : List ℕ = header (ComplexAck p) ++ t in
-    simp (
-      there front (tail g (p .choice) ++ t) 0 (omega arith),
-      there front (tail g (p .choice) ++ t) 1 (omega arith),
-      f .kind,
-      le-ltb 0 (x % 4) (omega (arith, below1 x (f .first), below0 x (f .last))),
-      mor-with-seg x (λ m. f .third ∙ r .more (sym (f .second) ∙ m)),
-      tail-back s 2 g (p .choice) r (f .third) (f .second) (after front (tail g (p .choice)) t),
-    )
+  complex-ack : (p : ComplexAckPdu) (t : List ℕ) → Rules edition (ComplexAck p) → readApdu edition (header (ComplexAck p) ++ t) ≡ Good (ComplexAck p)
+  unfolding readApdu readComplexAck
+  complex-ack p t r =
+      let g = p .segment in
+      let f = parts-of 3 (g .seg) (g .mor) false false in
+      let x = firstOctet 3 (g .seg) (g .mor) false false in
+      let front : List ℕ = x ∷ p .invoke ∷ [] in
+      let s : List ℕ = header (ComplexAck p) ++ t in
+      simp (
+        there front (tail g (p .choice) ++ t) 0 (omega arith),
+        there front (tail g (p .choice) ++ t) 1 (omega arith),
+        f .kind,
+        le-ltb 0 (x % 4) (omega (arith, below1 x (f .first), below0 x (f .last))),
+        mor-with-seg x (λ m. f .third ∙ r .more (sym (f .second) ∙ m)),
+        tail-back s 2 g (p .choice) r (f .third) (f .second) (after front (tail g (p .choice)) t),
+      )
 
-segment-ack : (p : SegmentAckPdu) → Rules (SegmentAck p) → readApdu (header (SegmentAck p)) ≡ Good (SegmentAck p)
-unfolding readApdu readSegmentAck
-segment-ack p w =
-    let f = parts-of 4 false false (p .nak) (p .srv) in
-    let x = firstOctet 4 false false (p .nak) (p .srv) in
-    simp (
-      f .kind,
-      le-ltb 3 (x % 16) (omega (arith, below3 x (f .third), below2 x (f .second))),
-      f .first,
-      f .last,
-      ne-eqb (p .window) 0 (λ e. omega arith),
-      le-ltb 127 (p .window) (w .1),
-    )
+  segment-ack : (p : SegmentAckPdu) → Rules edition (SegmentAck p) → readApdu edition (header (SegmentAck p)) ≡ Good (SegmentAck p)
+  unfolding readApdu readSegmentAck
+  segment-ack p w =
+      let f = parts-of 4 false false (p .nak) (p .srv) in
+      let x = firstOctet 4 false false (p .nak) (p .srv) in
+      simp (
+        f .kind,
+        le-ltb 3 (x % 16) (omega (arith, below3 x (f .third), below2 x (f .second))),
+        f .first,
+        f .last,
+        ne-eqb (p .window) 0 (λ e. omega arith),
+        le-ltb 127 (p .window) (w .1),
+      )
 
-error : (p : ErrorPdu) (t : List ℕ) → readApdu (header (Error p) ++ t) ≡ Good (Error p)
-unfolding readApdu readError firstOctet flag given
-error p t = let o = header (Error p) in simp (there o t 0 (omega arith), there o t 2 (omega arith))
+  error : (p : ErrorPdu) (t : List ℕ) → readApdu edition (header (Error p) ++ t) ≡ Good (Error p)
+  unfolding readApdu readError firstOctet flag given
+  error p t = let o = header (Error p) in simp (there o t 0 (omega arith), there o t 2 (omega arith))
 
-reject : (p : RejectPdu) → readApdu (header (Reject p)) ≡ Good (Reject p)
-unfolding readApdu readReject firstOctet flag given
-reject p = refl
+  reject : (p : RejectPdu) → readApdu edition (header (Reject p)) ≡ Good (Reject p)
+  unfolding readApdu readReject firstOctet flag given
+  reject p = refl
 
-abort : (p : AbortPdu) → readApdu (header (Abort p)) ≡ Good (Abort p)
-unfolding readApdu readAbort
-abort p =
-    let f = parts-of 7 false false false (p .srv) in
-    let x = firstOctet 7 false false false (p .srv) in
-    simp (f .kind, le-ltb 1 (x % 16) (omega (arith, below3 x (f .third), below2 x (f .second), below1 x (f .first))), f .last)
+  abort : (p : AbortPdu) → readApdu edition (header (Abort p)) ≡ Good (Abort p)
+  unfolding readApdu readAbort
+  abort p =
+      let f = parts-of 7 false false false (p .srv) in
+      let x = firstOctet 7 false false false (p .srv) in
+      simp (f .kind, le-ltb 1 (x % 16) (omega (arith, below3 x (f .third), below2 x (f .second), below1 x (f .first))), f .last)
 
--- all eight
-pub reads-back : (p : Pdu) (t : List ℕ) → Rules p → Follows p t → readApdu (header p ++ t) ≡ Good p
-reads-back (Request p) t r e = request p t r
-reads-back (Unconfirmed p) t r e = unconfirmed p t
-reads-back (SimpleAck p) t r e = rw e (simple-ack p)
-reads-back (ComplexAck p) t r e = complex-ack p t r
-reads-back (SegmentAck p) t r e = rw e (segment-ack p r)
-reads-back (Error p) t r e = error p t
-reads-back (Reject p) t r e = rw e (reject p)
-reads-back (Abort p) t r e = rw e (abort p)
+  -- all eight
+  pub reads-back : (p : Pdu) (t : List ℕ) → Rules edition p → Follows p t → readApdu edition (header p ++ t) ≡ Good p
+  reads-back (Request p) t r e = request p t r
+  reads-back (Unconfirmed p) t r e = unconfirmed p t
+  reads-back (SimpleAck p) t r e = rw e (simple-ack p)
+  reads-back (ComplexAck p) t r e = complex-ack p t r
+  reads-back (SegmentAck p) t r e = rw e (segment-ack p r)
+  reads-back (Error p) t r e = error p t
+  reads-back (Reject p) t r e = rw e (reject p)
+  reads-back (Abort p) t r e = rw e (abort p)

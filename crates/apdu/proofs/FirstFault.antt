@@ -7,7 +7,8 @@ use mathlib.Core.Bool.{true, false}
 use mathlib.Core.List.{List, [], _∷_, _++_}
 use lib.Dec.{ltb, eqb}
 use borrow.Author.Tests.{lt-ltb, ltb-true, ltb-false, eqb-true, eqb-false}
-use Rattle.octets.specs.Choice.{given, given-true, given-false, by-test, impossible, not-so}
+use Rattle.octets.specs.Choice.{given-true, given-false, by-test, impossible}
+use Rattle.apdu.specs.declared.Edition.{Edition}
 use Rattle.apdu.specs.declared.Segment.{Segment}
 use Rattle.apdu.specs.declared.RequestPdu.{RequestPdu}
 use Rattle.apdu.specs.declared.ComplexAckPdu.{ComplexAckPdu}
@@ -15,14 +16,16 @@ use Rattle.apdu.specs.declared.SegmentAckPdu.{SegmentAckPdu}
 use Rattle.apdu.specs.declared.Pdu.{Pdu}
 use Rattle.apdu.specs.declared.Pdu.the-variants.{Request, Unconfirmed, SimpleAck, ComplexAck, SegmentAck, Error, Reject, Abort}
 use Rattle.apdu.specs.declared.Answer.the-variants.{Refused}
+use Rattle.apdu.specs.Editions.{most, codeOf}
+use Rattle.apdu.specs.Fields.{segmentOf}
 use Rattle.apdu.specs.Reading.{readApdu, bit2, bit3}
 use Rattle.apdu.specs.Layout.{firstOctet, tail, header}
 use Rattle.apdu.specs.Valid.{Window}
-use Rattle.apdu.specs.Fault.{morFault, windowFault, segmentFault, sizeFault, faultOf}
-use Rattle.apdu.specs.Rows.{Off, BadFirst, ZeroBitSet, WindowAt, SizeOrWindow, LoneMore, OffField, Fits}
+use Rattle.apdu.specs.Fault.{morFault, windowFault, segmentFault, codeFault, sizeFault, faultOf}
+use Rattle.apdu.specs.Rows.{Off, BadFirst, ZeroBitSet, WindowAt, SizeOrWindow, LoneMore, ZeroField, OffField, Fits}
 use Rattle.apdu.proofs.FirstOctet.{Parts, parts-of, below3, below2, below1, below0, mor-with-seg}
 use Rattle.apdu.proofs.Bits.{seg-bit, bit-seg, mor-bit, good-first}
-use Rattle.apdu.proofs.Shown.{window-fine, size-fine}
+use Rattle.apdu.proofs.Shown.{window-fine, code-fine, size-fine}
 use Rattle.apdu.proofs.Offences.{off-window, zero-bit-refused, size-window-refused}
 
 -- ---- the parts of the writer's number
@@ -60,6 +63,10 @@ size-fault : (x : ℕ) → 5 < x → sizeFault x ≡ 23
 unfolding sizeFault
 size-fault x h = simp (lt-ltb 5 x h)
 
+code-fault : (e : Edition) (x : ℕ) → most e < x → codeFault e x ≡ 22
+unfolding codeFault
+code-fault e x h = simp (lt-ltb (most e) x h)
+
 segment-test : (g : Segment) → (((g .seg ≡ true) × Off (g .window)) × (segmentFault g ≡ 23)) ⊎ (((g .seg ≡ true) × Off (g .window) → ⊥) × (segmentFault g ≡ 0))
 unfolding segmentFault
 segment-test g =
@@ -71,63 +78,89 @@ segment-test g =
     (λ e. inr ((λ o. let z = o .0 in impossible (cc)), given-false _ _ _ e))
 
 -- ---- what the number says of the fields
-data Verdict (p : Pdu) : ℕ → Type 0 where
-  lone : LoneMore p → Verdict p 22
-  off : (LoneMore p → ⊥) → OffField p → Verdict p 23
-  fine : (LoneMore p → ⊥) → (OffField p → ⊥) → Verdict p 0
+data Verdict (e : Edition) (p : Pdu) : ℕ → Type 0 where
+  zeros : ZeroField e p → Verdict e p 22
+  off : (ZeroField e p → ⊥) → OffField p → Verdict e p 23
+  fine : (ZeroField e p → ⊥) → (OffField p → ⊥) → Verdict e p 0
 
-verdict : (p : Pdu) → Verdict p (faultOf p)
-verdict (Request p) =
-    let g = p .segment in
-    ⊎-elim (λ l. rw (lone-fault g l) (lone l)) (λ m.
-    by-test (ltb 5 (p .size))
-    (λ v. let h = ltb-true 5 (p .size) v in rw (m .1, size-fault (p .size) h) (off (m .0) (inl h)))
-    (λ v. let h = ltb-false 5 (p .size) v in
-    ⊎-elim
-    (λ o. rw (m .1, size-fine (p .size) h, o .1) (off (m .0) (inr (o .0))))
-    (λ w. rw (m .1, size-fine (p .size) h, w .1) (fine (m .0) (λ o. ⊎-elim (λ z. omega arith) (w .0) o)))
-    (segment-test g)))
-    (lone-test g)
-verdict (Unconfirmed p) = fine (λ l. not-so (l .1)) (λ o. o)
-verdict (SimpleAck p) = fine (λ l. not-so (l .1)) (λ o. o)
-verdict (ComplexAck p) =
-    let g = p .segment in
-    ⊎-elim (λ l. rw (lone-fault g l) (lone l)) (λ m.
-    ⊎-elim (λ o. rw (m .1, o .1) (off (m .0) (o .0))) (λ w. rw (m .1, w .1) (fine (m .0) (w .0))) (segment-test g))
-    (lone-test g)
-verdict (SegmentAck p) =
-    ⊎-elim
-    (λ o. rw (off-fault (p .window) o) (off (λ l. not-so (l .1)) o))
-    (λ w. rw (window-fine (p .window) w) (fine (λ l. not-so (l .1)) (off-not (p .window) w)))
-    (off-test (p .window))
-verdict (Error p) = fine (λ l. not-so (l .1)) (λ o. o)
-verdict (Reject p) = fine (λ l. not-so (l .1)) (λ o. o)
-verdict (Abort p) = fine (λ l. not-so (l .1)) (λ o. o)
+module _ (edition : Edition) where
+  -- no MOR without SEG, and a code of the edition
+  no-zeros : (p : Pdu) → (LoneMore p → ⊥) → codeOf p ≤ most edition → ZeroField edition p → ⊥
+  no-zeros p n c (inl l) = n l
+  no-zeros p n c (inr h) = omega arith
 
-module _ {p : Pdu} where
-  is-22 : {n : ℕ} → Verdict p n → (n ≡ 22) ↔ LoneMore p
-  is-22 (lone l) = ((λ e. l), (λ _. refl))
+  -- as in a kind without MOR and without a code
+  none-there : (p : Pdu) → segmentOf p .mor ≡ false → codeOf p ≡ 0 → ZeroField edition p → ⊥
+  none-there p m c = no-zeros p (λ l. let z = l .1 in impossible (cc)) (omega arith)
+
+  verdict : (p : Pdu) → Verdict edition p (faultOf edition p)
+  verdict (Request p) =
+      let g = p .segment in
+      ⊎-elim (λ l. rw (lone-fault g l) (zeros (inl l))) (λ m.
+      by-test (ltb (most edition) (p .accepts))
+      (λ u. let h = ltb-true (most edition) (p .accepts) u in rw (m .1, code-fault edition (p .accepts) h) (zeros (inr h)))
+      (λ u. let c = ltb-false (most edition) (p .accepts) u in
+      let n = no-zeros (Request p) (m .0) c in
+      let d = code-fine edition (p .accepts) c in
+      by-test (ltb 5 (p .size))
+      (λ v. let h = ltb-true 5 (p .size) v in rw (m .1, d, size-fault (p .size) h) (off n (inl h)))
+      (λ v. let h = ltb-false 5 (p .size) v in
+      ⊎-elim
+      (λ o. rw (m .1, d, size-fine (p .size) h, o .1) (off n (inr (o .0))))
+      (λ w. rw (m .1, d, size-fine (p .size) h, w .1) (fine n (λ o. ⊎-elim (λ z. omega arith) (w .0) o)))
+      (segment-test g))))
+      (lone-test g)
+  verdict (Unconfirmed p) = fine (none-there (Unconfirmed p) refl refl) (λ o. o)
+  verdict (SimpleAck p) = fine (none-there (SimpleAck p) refl refl) (λ o. o)
+  verdict (ComplexAck p) =
+      let g = p .segment in
+      ⊎-elim (λ l. rw (lone-fault g l) (zeros (inl l))) (λ m.
+      let n = no-zeros (ComplexAck p) (m .0) (omega arith) in
+      ⊎-elim (λ o. rw (m .1, o .1) (off n (o .0))) (λ w. rw (m .1, w .1) (fine n (w .0))) (segment-test g))
+      (lone-test g)
+  verdict (SegmentAck p) =
+      let n = none-there (SegmentAck p) refl refl in
+      ⊎-elim
+      (λ o. rw (off-fault (p .window) o) (off n o))
+      (λ w. rw (window-fine (p .window) w) (fine n (off-not (p .window) w)))
+      (off-test (p .window))
+  verdict (Error p) = fine (none-there (Error p) refl refl) (λ o. o)
+  verdict (Reject p) = fine (none-there (Reject p) refl refl) (λ o. o)
+  verdict (Abort p) = fine (none-there (Abort p) refl refl) (λ o. o)
+
+module _ {edition : Edition} {p : Pdu} where
+  is-22 : {n : ℕ} → Verdict edition p n → (n ≡ 22) ↔ ZeroField edition p
+  is-22 (zeros l) = ((λ e. l), (λ _. refl))
   is-22 (off f o) = ((λ e. absurd (omega arith)), (λ l. absurd (f l)))
   is-22 (fine f o) = ((λ e. absurd (omega arith)), (λ l. absurd (f l)))
 
-  is-23 : {n : ℕ} → Verdict p n → (n ≡ 23) ↔ ((LoneMore p → ⊥) × OffField p)
-  is-23 (lone l) = ((λ e. absurd (omega arith)), (λ o. absurd (o .0 l)))
+  is-23 : {n : ℕ} → Verdict edition p n → (n ≡ 23) ↔ ((ZeroField edition p → ⊥) × OffField p)
+  is-23 (zeros l) = ((λ e. absurd (omega arith)), (λ o. absurd (o .0 l)))
   is-23 (off f o) = ((λ e. (f, o)), (λ _. refl))
   is-23 (fine f o) = ((λ e. absurd (omega arith)), (λ h. absurd (o (h .1))))
 
-  is-0 : {n : ℕ} → Verdict p n → (n ≡ 0) ↔ ((LoneMore p → ⊥) × (OffField p → ⊥))
-  is-0 (lone l) = ((λ e. absurd (omega arith)), (λ o. absurd (o .0 l)))
+  is-0 : {n : ℕ} → Verdict edition p n → (n ≡ 0) ↔ ((ZeroField edition p → ⊥) × (OffField p → ⊥))
+  is-0 (zeros l) = ((λ e. absurd (omega arith)), (λ o. absurd (o .0 l)))
   is-0 (off f o) = ((λ e. absurd (omega arith)), (λ h. absurd (h .1 o)))
   is-0 (fine f o) = ((λ e. (f, o)), (λ _. refl))
 
-pub fault-22 : (p : Pdu) → (faultOf p ≡ 22) ↔ LoneMore p
-fault-22 p = is-22 (verdict p)
+module _ (edition : Edition) (p : Pdu) where
+  pub fault-22 : (faultOf edition p ≡ 22) ↔ ZeroField edition p
+  fault-22 = is-22 (verdict edition p)
 
-pub fault-23 : (p : Pdu) → (faultOf p ≡ 23) ↔ ((LoneMore p → ⊥) × OffField p)
-fault-23 p = is-23 (verdict p)
+  pub fault-23 : (faultOf edition p ≡ 23) ↔ ((ZeroField edition p → ⊥) × OffField p)
+  fault-23 = is-23 (verdict edition p)
 
-pub fault-none : (p : Pdu) → (faultOf p ≡ 0) ↔ ((LoneMore p → ⊥) × (OffField p → ⊥))
-fault-none p = is-0 (verdict p)
+  pub fault-none : (faultOf edition p ≡ 0) ↔ ((ZeroField edition p → ⊥) × (OffField p → ⊥))
+  fault-none = is-0 (verdict edition p)
+
+  pub fault-range : (faultOf edition p ≡ 0) ⊎ ((22 ≤ faultOf edition p) × (faultOf edition p ≤ 23))
+  fault-range = number (verdict edition p)
+    where
+      number : {n : ℕ} → Verdict edition p n → (n ≡ 0) ⊎ ((22 ≤ n) × (n ≤ 23))
+      number (zeros z) = inr (omega arith, omega arith)
+      number (off f o) = inr (omega arith, omega arith)
+      number (fine f o) = inl refl
 
 -- ---- octets with such a field are refused with that number
 tail-segmented : (g : Segment) (choice : ℕ) → g .seg ≡ true → tail g choice ≡ g .number ∷ g .window ∷ choice ∷ []
@@ -144,7 +177,8 @@ module _ (g : Segment) {x k : ℕ} {b1 b0 : _} (f : Parts x k (g .seg) (g .mor) 
   not-lone : (Lone g → ⊥) → bit2 x ≡ true → bit3 x ≡ true
   not-lone n m = by-test (g .seg) (λ e. f .third ∙ e) (λ e. absurd (n (e, sym (f .second) ∙ m)))
 
-module _ (p : RequestPdu) (t : List ℕ) where
+-- the first octet of a request and of a complex ack, good where MOR does not stand alone
+module _ (p : RequestPdu) where
   abbrev requestFirst : ℕ
   requestFirst = firstOctet 0 (p .segment .seg) (p .segment .mor) (p .sa) false
 
@@ -157,18 +191,7 @@ module _ (p : RequestPdu) (t : List ℕ) where
       let x = requestFirst in
       good-first 0 x (f .kind) (omega (arith, below0 x (f .last))) (λ _. mor-with-seg x (not-lone (p .segment) f n))
 
-  size-off : p .size ≤ 15 → (Lone (p .segment) → ⊥) → 5 < p .size → readApdu (header (Request p) ++ t) ≡ Refused 23
-  size-off fits n h = size-window-refused _ (SizeOrWindow.of-size (omega arith) (request-parts .kind) (request-good n) (omega arith) h)
-
-  request-off : p .size ≤ 15 → (Lone (p .segment) → ⊥) → OffField (Request p) → readApdu (header (Request p) ++ t) ≡ Refused 23
-  request-off fits n (inl h) = size-off fits n h
-  request-off fits n (inr o) =
-      by-test (ltb 5 (p .size))
-      (λ v. size-off fits n (ltb-true 5 (p .size) v))
-      (λ v. rw (tail-segmented (p .segment) (p .choice) (o .0)) (size-window-refused _ (SizeOrWindow.of-window {at = 4} (omega arith)
-      (WindowAt.of-request (request-parts .kind) (seg-bit requestFirst (request-parts .third ∙ o .0)) (ltb-false 5 (p .size) v)) (request-good n) (o .1))))
-
-module _ (p : ComplexAckPdu) (t : List ℕ) where
+module _ (p : ComplexAckPdu) where
   abbrev ackFirst : ℕ
   ackFirst = firstOctet 3 (p .segment .seg) (p .segment .mor) false false
 
@@ -181,42 +204,76 @@ module _ (p : ComplexAckPdu) (t : List ℕ) where
       let x = ackFirst in
       good-first 3 x (f .kind) (omega (arith, below1 x (f .first), below0 x (f .last))) (λ _. mor-with-seg x (not-lone (p .segment) f n))
 
-  ack-off : (Lone (p .segment) → ⊥) → OffField (ComplexAck p) → readApdu (header (ComplexAck p) ++ t) ≡ Refused 23
-  ack-off n o =
-      rw (tail-segmented (p .segment) (p .choice) (o .0)) (size-window-refused _ (SizeOrWindow.of-window {at = 3} (omega arith)
-      (WindowAt.of-complex-ack (ack-parts .kind) (seg-bit ackFirst (ack-parts .third ∙ o .0))) (ack-good n) (o .1)))
+module _ (edition : Edition) (p : RequestPdu) (t : List ℕ) (fits : p .size ≤ 15) where
+  lone-zeros : Lone (p .segment) → readApdu edition (header (Request p) ++ t) ≡ Refused 22
+  lone-zeros l = zero-bit-refused edition _ (ZeroBitSet.in-first (omega arith) (lone-first (p .segment) (request-parts p) (inl refl) l))
 
-segment-ack-off : (p : SegmentAckPdu) (t : List ℕ) → Off (p .window) → readApdu (header (SegmentAck p) ++ t) ≡ Refused 23
-segment-ack-off p t o =
-    let f = parts-of 4 false false (p .nak) (p .srv) in
-    let x = firstOctet 4 false false (p .nak) (p .srv) in
-    size-window-refused _ (SizeOrWindow.of-window {at = 3} (omega arith) (WindowAt.of-segment-ack (f .kind))
-    (good-first 4 x (f .kind) (omega (arith, below3 x (f .third), below2 x (f .second))) (λ w. mor-with-seg x (λ m. let z = f .second in impossible (cc)))) o)
+  request-zeros : ZeroField edition (Request p) → readApdu edition (header (Request p) ++ t) ≡ Refused 22
+  request-zeros (inl l) = lone-zeros l
+  request-zeros (inr h) =
+      ⊎-elim lone-zeros
+      (λ m. zero-bit-refused edition _ (ZeroBitSet.in-second (omega arith) (request-parts p .kind) (request-good p (m .0)) (omega arith)))
+      (lone-test (p .segment))
 
-off-read : (p : Pdu) (t : List ℕ) → Fits p → (LoneMore p → ⊥) → OffField p → readApdu (header p ++ t) ≡ Refused 23
-off-read (Request p) t fits n o = request-off p t fits n o
-off-read (Unconfirmed p) t fits n o = absurd o
-off-read (SimpleAck p) t fits n o = absurd o
-off-read (ComplexAck p) t fits n o = ack-off p t n o
-off-read (SegmentAck p) t fits n o = segment-ack-off p t o
-off-read (Error p) t fits n o = absurd o
-off-read (Reject p) t fits n o = absurd o
-off-read (Abort p) t fits n o = absurd o
+  module _ (n : ZeroField edition (Request p) → ⊥) where
+    code-within : p .accepts ≤ most edition
+    code-within = by-test (ltb (most edition) (p .accepts)) (λ u. absurd (n (inr (ltb-true _ _ u)))) (λ u. ltb-false _ _ u)
 
-lone-read : (p : Pdu) (t : List ℕ) → LoneMore p → readApdu (header p ++ t) ≡ Refused 22
-lone-read (Request p) t l = zero-bit-refused _ (ZeroBitSet.in-first (omega arith) (lone-first (p .segment) (request-parts p t) (inl refl) l))
-lone-read (Unconfirmed p) t l = not-so (l .1)
-lone-read (SimpleAck p) t l = not-so (l .1)
-lone-read (ComplexAck p) t l = zero-bit-refused _ (ZeroBitSet.in-first (omega arith) (lone-first (p .segment) (ack-parts p t) (inr refl) l))
-lone-read (SegmentAck p) t l = not-so (l .1)
-lone-read (Error p) t l = not-so (l .1)
-lone-read (Reject p) t l = not-so (l .1)
-lone-read (Abort p) t l = not-so (l .1)
+    first-good : BadFirst (requestFirst p) → ⊥
+    first-good = request-good p (λ l. n (inl l))
 
-verdict-read : {p : Pdu} {n : ℕ} (t : List ℕ) → Fits p → Verdict p n → (n ≡ 0 → ⊥) → readApdu (header p ++ t) ≡ Refused n
-verdict-read {p} t fits (lone l) f = lone-read p t l
-verdict-read {p} t fits (off n o) f = off-read p t fits n o
-verdict-read {p} t fits (fine n o) f = absurd (f refl)
+    size-off : 5 < p .size → readApdu edition (header (Request p) ++ t) ≡ Refused 23
+    size-off h =
+        let c = code-within in
+        size-window-refused edition _ (SizeOrWindow.of-size (omega arith) (request-parts p .kind) first-good (omega arith) (omega arith))
 
-pub fault-read : (p : Pdu) (t : List ℕ) → Fits p → (faultOf p ≡ 0 → ⊥) → readApdu (header p ++ t) ≡ Refused (faultOf p)
-fault-read p t fits f = verdict-read t fits (verdict p) f
+    request-off : OffField (Request p) → readApdu edition (header (Request p) ++ t) ≡ Refused 23
+    request-off (inl h) = size-off h
+    request-off (inr o) =
+        by-test (ltb 5 (p .size)) (λ v. size-off (ltb-true 5 (p .size) v)) (λ v.
+        let c = code-within in
+        let h = ltb-false 5 (p .size) v in
+        rw (tail-segmented (p .segment) (p .choice) (o .0)) (size-window-refused edition _ (SizeOrWindow.of-window {at = 4} (omega arith)
+        (WindowAt.of-request (request-parts p .kind) (seg-bit (requestFirst p) (request-parts p .third ∙ o .0)) (omega arith) (omega arith)) first-good (o .1))))
+
+module _ (edition : Edition) where
+  ack-off : (p : ComplexAckPdu) (t : List ℕ) → (Lone (p .segment) → ⊥) → OffField (ComplexAck p) → readApdu edition (header (ComplexAck p) ++ t) ≡ Refused 23
+  ack-off p t n o =
+      rw (tail-segmented (p .segment) (p .choice) (o .0)) (size-window-refused edition _ (SizeOrWindow.of-window {at = 3} (omega arith)
+      (WindowAt.of-complex-ack (ack-parts p .kind) (seg-bit (ackFirst p) (ack-parts p .third ∙ o .0))) (ack-good p n) (o .1)))
+
+  segment-ack-off : (p : SegmentAckPdu) (t : List ℕ) → Off (p .window) → readApdu edition (header (SegmentAck p) ++ t) ≡ Refused 23
+  segment-ack-off p t o =
+      let f = parts-of 4 false false (p .nak) (p .srv) in
+      let x = firstOctet 4 false false (p .nak) (p .srv) in
+      size-window-refused edition _ (SizeOrWindow.of-window {at = 3} (omega arith) (WindowAt.of-segment-ack (f .kind))
+      (good-first 4 x (f .kind) (omega (arith, below3 x (f .third), below2 x (f .second))) (λ w. mor-with-seg x (λ m. let z = f .second in impossible (cc)))) o)
+
+  off-read : (p : Pdu) (t : List ℕ) → Fits p → (ZeroField edition p → ⊥) → OffField p → readApdu edition (header p ++ t) ≡ Refused 23
+  off-read (Request p) t fits n o = request-off edition p t (fits .1) n o
+  off-read (Unconfirmed p) t fits n o = absurd o
+  off-read (SimpleAck p) t fits n o = absurd o
+  off-read (ComplexAck p) t fits n o = ack-off p t (λ l. n (inl l)) o
+  off-read (SegmentAck p) t fits n o = segment-ack-off p t o
+  off-read (Error p) t fits n o = absurd o
+  off-read (Reject p) t fits n o = absurd o
+  off-read (Abort p) t fits n o = absurd o
+
+  zeros-read : (p : Pdu) (t : List ℕ) → Fits p → ZeroField edition p → readApdu edition (header p ++ t) ≡ Refused 22
+  zeros-read (Request p) t fits z = request-zeros edition p t (fits .1) z
+  zeros-read (Unconfirmed p) t fits z = absurd (none-there edition (Unconfirmed p) refl refl z)
+  zeros-read (SimpleAck p) t fits z = absurd (none-there edition (SimpleAck p) refl refl z)
+  zeros-read (ComplexAck p) t fits (inl l) = zero-bit-refused edition _ (ZeroBitSet.in-first (omega arith) (lone-first (p .segment) (ack-parts p) (inr refl) l))
+  zeros-read (ComplexAck p) t fits (inr h) = absurd (omega arith)
+  zeros-read (SegmentAck p) t fits z = absurd (none-there edition (SegmentAck p) refl refl z)
+  zeros-read (Error p) t fits z = absurd (none-there edition (Error p) refl refl z)
+  zeros-read (Reject p) t fits z = absurd (none-there edition (Reject p) refl refl z)
+  zeros-read (Abort p) t fits z = absurd (none-there edition (Abort p) refl refl z)
+
+  verdict-read : {p : Pdu} {n : ℕ} (t : List ℕ) → Fits p → Verdict edition p n → (n ≡ 0 → ⊥) → readApdu edition (header p ++ t) ≡ Refused n
+  verdict-read {p} t fits (zeros z) f = zeros-read p t fits z
+  verdict-read {p} t fits (off n o) f = off-read p t fits n o
+  verdict-read {p} t fits (fine n o) f = absurd (f refl)
+
+  pub fault-read : (p : Pdu) (t : List ℕ) → Fits p → (faultOf edition p ≡ 0 → ⊥) → readApdu edition (header p ++ t) ≡ Refused (faultOf edition p)
+  fault-read p t fits f = verdict-read t fits (verdict edition p) f

@@ -10,4 +10,5 @@ pub mod Offences
 pub mod LeftToRight
 pub mod Rows
 pub mod FirstFault
+pub mod EditionsCompared
 pub mod Cases

@@ -7,12 +7,16 @@ use mathlib.Core.List.{List}
 use lib.Dec.{eqb, ltb}
 use borrow.Author.Tests.{le-ltb, ne-eqb, ltb-false, eqb-true, eqb-false}
 use Rattle.octets.specs.Choice.{given, pick-not, by-test}
+use Rattle.apdu.specs.declared.Edition.{Edition}
+use Rattle.apdu.specs.declared.Edition.the-variants.{First, Later}
 use Rattle.apdu.specs.declared.Segment.{Segment}
 use Rattle.apdu.specs.declared.Pdu.{Pdu}
 use Rattle.apdu.specs.declared.Pdu.the-variants.{Request, Unconfirmed, SimpleAck, ComplexAck, SegmentAck, Error, Reject, Abort}
+use Rattle.apdu.specs.Editions.{most}
 use Rattle.apdu.specs.Layout.{segment, tail, header}
-use Rattle.apdu.specs.Valid.{Window, SegmentRules, Rules, Follows}
-use Rattle.apdu.specs.Fault.{morFault, windowFault, segmentFault, sizeFault, orElse, faultOf, shownSegment, shown}
+use Rattle.apdu.specs.Valid.{Window, Code, SegmentRules, Rules, Follows}
+use Rattle.apdu.specs.Rows.{Fits}
+use Rattle.apdu.specs.Fault.{morFault, windowFault, segmentFault, codeFault, sizeFault, orElse, faultOf, shownSegment, shown}
 
 -- no fault, and the rule that it judges, both ways
 window-rule : (w : ℕ) → windowFault w ≡ 0 → Window w
@@ -33,6 +37,19 @@ size-rule x e = ltb-false 5 x (pick-not (ltb 5 x) 23 0 0 (λ d. omega arith) e .
 pub size-fine : (x : ℕ) → x ≤ 5 → sizeFault x ≡ 0
 unfolding sizeFault
 size-fine x h = simp (le-ltb 5 x h)
+
+code-rule : (e : Edition) (x : ℕ) → codeFault e x ≡ 0 → Code e x
+unfolding codeFault
+code-rule e x f = ltb-false (most e) x (pick-not (ltb (most e) x) 22 0 0 (λ d. omega arith) f .0)
+
+pub code-fine : (e : Edition) (x : ℕ) → Code e x → codeFault e x ≡ 0
+unfolding codeFault
+code-fine e x h = simp (le-ltb (most e) x h)
+
+-- an edition's greatest code fits four bits
+most-small : (e : Edition) → most e ≤ 15
+most-small First = omega arith
+most-small Later = omega arith
 
 neither : (a b : ℕ) → orElse a b ≡ 0 → (a ≡ 0) × (b ≡ 0)
 neither a b e = by-test (eqb a 0) (λ z. (eqb-true a 0 z, rw z at e)) (λ z. let v : a ≡ 0 = rw z at e in absurd (eqb-false a 0 z v))
@@ -76,39 +93,54 @@ module _ (g : Segment) where
   segment-octets : (choice : ℕ) → tail (shownSegment g) choice ≡ tail g choice
   segment-octets = octets-at (g .number) (g .window) (g .seg) (g .mor)
 
-pub fault-rules : (p : Pdu) → faultOf p ≡ 0 → Rules (shown p)
-fault-rules (Request p) e =
-    let a = neither (morFault (p .segment)) _ e in
-    let b = neither (sizeFault (p .size)) _ (a .1) in
-    (size-rule (p .size) (b .0), segment-rules (p .segment) (a .0) (b .1))
-fault-rules (Unconfirmed p) e = tt
-fault-rules (SimpleAck p) e = tt
-fault-rules (ComplexAck p) e = let a = neither (morFault (p .segment)) _ e in segment-rules (p .segment) (a .0) (a .1)
-fault-rules (SegmentAck p) e = window-rule (p .window) e
-fault-rules (Error p) e = tt
-fault-rules (Reject p) e = tt
-fault-rules (Abort p) e = tt
+module _ (edition : Edition) where
+  pub fault-rules : (p : Pdu) → faultOf edition p ≡ 0 → Rules edition (shown p)
+  fault-rules (Request p) e =
+      let a = neither (morFault (p .segment)) _ e in
+      let b = neither (codeFault edition (p .accepts)) _ (a .1) in
+      let c = neither (sizeFault (p .size)) _ (b .1) in
+      (code-rule edition (p .accepts) (b .0), size-rule (p .size) (c .0), segment-rules (p .segment) (a .0) (c .1))
+  fault-rules (Unconfirmed p) e = tt
+  fault-rules (SimpleAck p) e = tt
+  fault-rules (ComplexAck p) e = let a = neither (morFault (p .segment)) _ e in segment-rules (p .segment) (a .0) (a .1)
+  fault-rules (SegmentAck p) e = window-rule (p .window) e
+  fault-rules (Error p) e = tt
+  fault-rules (Reject p) e = tt
+  fault-rules (Abort p) e = tt
 
-pub rules-fault : (p : Pdu) → Rules (shown p) → faultOf p ≡ 0
-rules-fault (Request p) r = let s = segment-fine (p .segment) (r .1) in none _ _ (s .0) (none _ _ (size-fine (p .size) (r .0)) (s .1))
-rules-fault (Unconfirmed p) r = refl
-rules-fault (SimpleAck p) r = refl
-rules-fault (ComplexAck p) r = let s = segment-fine (p .segment) r in none _ _ (s .0) (s .1)
-rules-fault (SegmentAck p) r = window-fine (p .window) r
-rules-fault (Error p) r = refl
-rules-fault (Reject p) r = refl
-rules-fault (Abort p) r = refl
+  -- what is written fits its places
+  pub fault-fits : (p : Pdu) → faultOf edition p ≡ 0 → Fits p
+  fault-fits (Request p) e = let r = fault-rules (Request p) e in (omega (arith, r .0, most-small edition), omega (arith, r .1))
+  fault-fits (Unconfirmed p) e = tt
+  fault-fits (SimpleAck p) e = tt
+  fault-fits (ComplexAck p) e = tt
+  fault-fits (SegmentAck p) e = tt
+  fault-fits (Error p) e = tt
+  fault-fits (Reject p) e = tt
+  fault-fits (Abort p) e = tt
 
--- a PDU that keeps the rules is shown as it is
-pub shown-same : (p : Pdu) → Rules p → shown p ≡ p
-shown-same (Request p) r = rw (segment-same (p .segment) (r .1))
-shown-same (Unconfirmed p) r = refl
-shown-same (SimpleAck p) r = refl
-shown-same (ComplexAck p) r = rw (segment-same (p .segment) r)
-shown-same (SegmentAck p) r = refl
-shown-same (Error p) r = refl
-shown-same (Reject p) r = refl
-shown-same (Abort p) r = refl
+  pub rules-fault : (p : Pdu) → Rules edition (shown p) → faultOf edition p ≡ 0
+  rules-fault (Request p) r =
+      let s = segment-fine (p .segment) (r .2) in
+      none _ _ (s .0) (none _ _ (code-fine edition (p .accepts) (r .0)) (none _ _ (size-fine (p .size) (r .1)) (s .1)))
+  rules-fault (Unconfirmed p) r = refl
+  rules-fault (SimpleAck p) r = refl
+  rules-fault (ComplexAck p) r = let s = segment-fine (p .segment) r in none _ _ (s .0) (s .1)
+  rules-fault (SegmentAck p) r = window-fine (p .window) r
+  rules-fault (Error p) r = refl
+  rules-fault (Reject p) r = refl
+  rules-fault (Abort p) r = refl
+
+  -- a PDU that keeps the rules is shown as it is
+  pub shown-same : (p : Pdu) → Rules edition p → shown p ≡ p
+  shown-same (Request p) r = rw (segment-same (p .segment) (r .2))
+  shown-same (Unconfirmed p) r = refl
+  shown-same (SimpleAck p) r = refl
+  shown-same (ComplexAck p) r = rw (segment-same (p .segment) r)
+  shown-same (SegmentAck p) r = refl
+  shown-same (Error p) r = refl
+  shown-same (Reject p) r = refl
+  shown-same (Abort p) r = refl
 
 -- its octets are those of what it is shown as
 pub shown-header : (p : Pdu) → header (shown p) ≡ header p

@@ -11,6 +11,7 @@ use borrow.Author.Tests.{ltb-true, ltb-false, leb-true, leb-false, eqb-true, eqb
 use Rattle.octets.specs.Choice.{pick, given, pick-cases}
 use Rattle.octets.specs.Reading.{oct, reach, refuse}
 use Rattle.octets.specs.Has.{Has}
+use Rattle.apdu.specs.declared.Edition.{Edition}
 use Rattle.apdu.specs.declared.Segment.{Segment}
 use Rattle.apdu.specs.declared.Pdu.{Pdu}
 use Rattle.apdu.specs.declared.Pdu.the-variants.{Request, Unconfirmed, SimpleAck, ComplexAck, SegmentAck, Error, Reject, Abort}
@@ -18,6 +19,7 @@ use Rattle.apdu.specs.declared.Answer.{Answer}
 use Rattle.apdu.specs.declared.Answer.the-variants.{Good, Refused}
 use Rattle.apdu.specs.declared.kinds.Tail.{Tail}
 use Rattle.apdu.specs.declared.kinds.Tail.the-variants.{Part, Broken}
+use Rattle.apdu.specs.Editions.{most}
 use Rattle.apdu.specs.Reading.{readApdu, readTail, readRequest, readUnconfirmed, readSimpleAck, readComplexAck, readSegmentAck, readError, readReject, readAbort, withTail, judgeWindow, bit3, bit2, morWithoutSeg}
 use Rattle.apdu.specs.Fields.{paramsAt}
 use Rattle.apdu.specs.Layout.{tail, header}
@@ -28,18 +30,18 @@ use Rattle.apdu.proofs.Bits.{seg-bit, good-first, bad-request, bad-unco
 use Rattle.apdu.proofs.Headers.{front-more}
 
 -- the reason of a refusal, by its number: of 20 here only that the octets are fewer than the longest header's
-abbrev pub Reason : List ℕ → ℕ → Type 0
-Reason s n =
+abbrev pub Reason : Edition → List ℕ → ℕ → Type 0
+Reason e s n =
     pick (eqb n 20) (length s ≤ 5)
     (pick (eqb n 21) ((0 < length s) × (8 ≤ oct s 0 / 16))
-    (pick (eqb n 22) (ZeroBitSet s)
-    (pick (eqb n 23) (SizeOrWindow s)
-    (pick (eqb n 24) (LeftOver s) ⊥))))
+    (pick (eqb n 22) (ZeroBitSet e s)
+    (pick (eqb n 23) (SizeOrWindow e s)
+    (pick (eqb n 24) (LeftOver e s) ⊥))))
 
 -- what an answer says of the octets
-pub data Judged (s : List ℕ) : Answer → Type 0 where
-  good : {p : Pdu} → Rules p → Has s 0 (header p) → Follows p (drop (paramsAt p) s) → Judged s (Good p)
-  bad : (n : ℕ) → Reason s n → Judged s (Refused n)
+pub data Judged (e : Edition) (s : List ℕ) : Answer → Type 0 where
+  good : {p : Pdu} → Rules e p → Has s 0 (header p) → Follows p (drop (paramsAt p) s) → Judged e s (Good p)
+  bad : (n : ℕ) → Reason e s n → Judged e s (Refused n)
 
 -- what a tail says of the octets from a place on
 data JudgedTail (s : List ℕ) (at : ℕ) : Tail → Type 0 where
@@ -92,80 +94,82 @@ module _ (s : List ℕ) where
       part (record { more = λ m. sym e ∙ needs-seg (oct s 0) lone m; window = λ f. absurd (false≢true f); absent = λ _. (refl, refl) }) e refl
       (omega arith, refl, omega arith)))
 
+module _ (edition : Edition) (s : List ℕ) where
   with-tail : (at : ℕ) (f : Segment → ℕ → Pdu) {t : Tail} → at ≤ 3 → JudgedTail s at t
-      → (bit3 (oct s 0) ≡ true → at + 1 < length s → Off (oct s (at + 1)) → SizeOrWindow s)
-      → ((g : Segment) (choice : ℕ) → SegmentRules g → bit3 (oct s 0) ≡ g .seg → bit2 (oct s 0) ≡ g .mor → Has s at (tail g choice) → Judged s (Good (f g choice)))
-      → Judged s (withTail t f)
+      → (bit3 (oct s 0) ≡ true → at + 1 < length s → Off (oct s (at + 1)) → SizeOrWindow edition s)
+      → ((g : Segment) (choice : ℕ) → SegmentRules g → bit3 (oct s 0) ≡ g .seg → bit2 (oct s 0) ≡ g .mor → Has s at (tail g choice) → Judged edition s (Good (f g choice)))
+      → Judged edition s (withTail t f)
   with-tail at f b (part {g} {choice} r e d h) w k = k g choice r e d h
   with-tail at f b (ended h) w k = bad 20 (omega arith)
   with-tail at f b (broken e l o) w k = bad 23 (w e l o)
 
   -- past the octets that are reached, and past octets left over
-  reached : (at : ℕ) {rest : Answer} → at ≤ 5 → (at < length s → Judged s rest) → Judged s (reach s at (Refused 20) rest)
-  reached at b f = pick-cases (Judged s) (leb (length s) at) (λ l. bad 20 (omega (arith, leb-true (length s) at l))) (λ l. f (leb-false (length s) at l))
+  reached : (at : ℕ) {rest : Answer} → at ≤ 5 → (at < length s → Judged edition s rest) → Judged edition s (reach s at (Refused 20) rest)
+  reached at b f = pick-cases (Judged edition s) (leb (length s) at) (λ l. bad 20 (omega (arith, leb-true (length s) at l))) (λ l. f (leb-false (length s) at l))
 
-  ended-there : (p : Pdu) → Alone p → Rules p → Has s 0 (header p) → Judged s (refuse (ltb (paramsAt p) (length s)) (Refused 24) (Good p))
+  ended-there : (p : Pdu) → Alone p → Rules edition p → Has s 0 (header p) → Judged edition s (refuse (ltb (paramsAt p) (length s)) (Refused 24) (Good p))
   ended-there p a r h =
-      pick-cases (Judged s) (ltb (paramsAt p) (length s))
+      pick-cases (Judged edition s) (ltb (paramsAt p) (length s))
       (λ l. bad 24 (record { pdu = p; alone = a; rules = r; next = _; rest = _; octets = front-more s p h (ltb-true _ _ l) }))
       (λ l. good r h (none-follows p (drop (paramsAt p) s) (drop-of-length-le s (ltb-false (paramsAt p) (length s) l))))
 
   module _ (some : 0 < length s) where
     -- past the low bits, and past MOR without SEG
-    first-bad : (test : Bool) {rest : Answer} → (test ≡ true → BadFirst (oct s 0)) → (test ≡ false → Judged s rest) → Judged s (refuse test (Refused 22) rest)
-    first-bad test b f = pick-cases (Judged s) test (λ e. bad 22 (ZeroBitSet.in-first some (b e))) f
+    first-bad : (test : Bool) {rest : Answer} → (test ≡ true → BadFirst (oct s 0)) → (test ≡ false → Judged edition s rest) → Judged edition s (refuse test (Refused 22) rest)
+    first-bad test b f = pick-cases (Judged edition s) test (λ e. bad 22 (ZeroBitSet.in-first some (b e))) f
 
-    low-bits : (mask most : ℕ) {rest : Answer} → (most < oct s 0 % mask → BadFirst (oct s 0)) → (oct s 0 % mask ≤ most → Judged s rest)
-        → Judged s (refuse (ltb most (oct s 0 % mask)) (Refused 22) rest)
-    low-bits mask most b f =
-        first-bad (ltb most (oct s 0 % mask)) (λ e. b (ltb-true most (oct s 0 % mask) e)) (λ z. f (ltb-false most (oct s 0 % mask) z))
+    low-bits : (mask limit : ℕ) {rest : Answer} → (limit < oct s 0 % mask → BadFirst (oct s 0)) → (oct s 0 % mask ≤ limit → Judged edition s rest)
+        → Judged edition s (refuse (ltb limit (oct s 0 % mask)) (Refused 22) rest)
+    low-bits mask limit b f =
+        first-bad (ltb limit (oct s 0 % mask)) (λ e. b (ltb-true limit (oct s 0 % mask) e)) (λ z. f (ltb-false limit (oct s 0 % mask) z))
 
-    request : oct s 0 / 16 ≡ 0 → Judged s (readRequest s)
+    request : oct s 0 / 16 ≡ 0 → Judged edition s (readRequest edition s)
     unfolding readRequest
     request k =
         low-bits 2 0 (bad-request (oct s 0) k) (λ z.
         first-bad (morWithoutSeg (oct s 0)) (bad-more (oct s 0) (inl k)) (λ lone.
         let fine : BadFirst (oct s 0) → ⊥ = good-first 0 (oct s 0) k z (λ _. lone) in
         reached 1 (omega arith) (λ l.
-        pick-cases (Judged s) (ltb 15 (oct s 1)) (λ u. bad 22 (ZeroBitSet.in-second l k fine (omega (arith, ltb-true 15 (oct s 1) u)))) (λ u.
-        pick-cases (Judged s) (ltb 5 (oct s 1))
-        (λ v. bad 23 (SizeOrWindow.of-size l k fine (omega (arith, ltb-false 15 (oct s 1) u)) (ltb-true 5 (oct s 1) v))) (λ v.
-        let six = ltb-false 5 (oct s 1) v in
+        pick-cases (Judged edition s) (ltb (most edition) (oct s 1 / 16)) (λ u. bad 22 (ZeroBitSet.in-second l k fine (ltb-true (most edition) (oct s 1 / 16) u))) (λ u.
+        let code = ltb-false (most edition) (oct s 1 / 16) u in
+        pick-cases (Judged edition s) (ltb 5 (oct s 1 % 16))
+        (λ v. bad 23 (SizeOrWindow.of-size l k fine code (ltb-true 5 (oct s 1 % 16) v))) (λ v.
+        let six = ltb-false 5 (oct s 1 % 16) v in
         reached 2 (omega arith) (λ m.
-        with-tail 3 _ (omega arith) (tail-judged 3 lone)
-        (λ e w o. SizeOrWindow.of-window w (WindowAt.of-request k (seg-bit (oct s 0) e) six) fine o) (λ g choice r e3 e2 h.
-        good (six, r)
-        (some, made-of 0 _ _ _ _ (oct s 0) (record { kind = k; third = e3; second = e2; first = refl; last = clear0 (oct s 0) (omega arith) }), (l, refl, (m, refl, h)))
+        with-tail 3 _ (omega arith) (tail-judged s 3 lone)
+        (λ e w o. SizeOrWindow.of-window w (WindowAt.of-request k (seg-bit (oct s 0) e) code six) fine o) (λ g choice r e3 e2 h.
+        good (code, six, r)
+        (some, made-of 0 _ _ _ _ (oct s 0) (record { kind = k; third = e3; second = e2; first = refl; last = clear0 (oct s 0) (omega arith) }), (l, omega arith, (m, refl, h)))
         tt)))))))
 
-    unconfirmed : oct s 0 / 16 ≡ 1 → Judged s (readUnconfirmed s)
+    unconfirmed : oct s 0 / 16 ≡ 1 → Judged edition s (readUnconfirmed s)
     unfolding readUnconfirmed
     unconfirmed k = low-bits 16 0 (bad-unconfirmed (oct s 0) k) (λ z. reached 1 (omega arith) (λ l. good tt (some, no-bits 1 (oct s 0) k z, stands s 1 1 l) tt))
 
-    simple-ack : oct s 0 / 16 ≡ 2 → Judged s (readSimpleAck s)
+    simple-ack : oct s 0 / 16 ≡ 2 → Judged edition s (readSimpleAck s)
     unfolding readSimpleAck
     simple-ack k =
         low-bits 16 0 (bad-simple-ack (oct s 0) k) (λ z.
         reached 2 (omega arith) (λ l. ended-there (SimpleAck _) tt tt (some, no-bits 2 (oct s 0) k z, stands s 1 2 l)))
 
-    complex-ack : oct s 0 / 16 ≡ 3 → Judged s (readComplexAck s)
+    complex-ack : oct s 0 / 16 ≡ 3 → Judged edition s (readComplexAck s)
     unfolding readComplexAck
     complex-ack k =
         low-bits 4 0 (bad-complex-ack (oct s 0) k) (λ z.
         first-bad (morWithoutSeg (oct s 0)) (bad-more (oct s 0) (inr k)) (λ lone.
         reached 1 (omega arith) (λ l.
-        with-tail 2 _ (omega arith) (tail-judged 2 lone)
+        with-tail 2 _ (omega arith) (tail-judged s 2 lone)
         (λ e w o. SizeOrWindow.of-window w (WindowAt.of-complex-ack k (seg-bit (oct s 0) e)) (good-first 3 (oct s 0) k z (λ _. lone)) o) (λ g choice r e3 e2 h.
         good r
         (some, made-of 3 _ _ _ _ (oct s 0) (record { kind = k; third = e3; second = e2; first = clear1 (oct s 0) (omega arith); last = clear0 (oct s 0) (omega arith) }), (l, refl, h))
         tt))))
 
-    segment-ack : oct s 0 / 16 ≡ 4 → Judged s (readSegmentAck s)
+    segment-ack : oct s 0 / 16 ≡ 4 → Judged edition s (readSegmentAck s)
     unfolding readSegmentAck
     segment-ack k =
         low-bits 16 3 (bad-segment-ack (oct s 0) k) (λ z.
         reached 3 (omega arith) (λ l.
-        past-window (Judged s) (oct s 3)
+        past-window (Judged edition s) (oct s 3)
         (λ o. bad 23 (SizeOrWindow.of-window l (WindowAt.of-segment-ack k) (good-first 4 (oct s 0) k z (λ e. absurd (other e))) o)) (λ w.
         ended-there (SegmentAck _) tt w
         (some, made-of 4 _ _ _ _ (oct s 0) (record { kind = k; third = clear3 (oct s 0) (omega arith); second = clear2 (oct s 0) (omega arith); first = refl; last = refl }), stands s 1 3 l))))
@@ -174,16 +178,16 @@ module _ (s : List ℕ) where
         other (inl e) = omega arith
         other (inr e) = omega arith
 
-    error : oct s 0 / 16 ≡ 5 → Judged s (readError s)
+    error : oct s 0 / 16 ≡ 5 → Judged edition s (readError s)
     unfolding readError
     error k = low-bits 16 0 (bad-error (oct s 0) k) (λ z. reached 2 (omega arith) (λ l. good tt (some, no-bits 5 (oct s 0) k z, stands s 1 2 l) tt))
 
-    reject : oct s 0 / 16 ≡ 6 → Judged s (readReject s)
+    reject : oct s 0 / 16 ≡ 6 → Judged edition s (readReject s)
     unfolding readReject
     reject k =
         low-bits 16 0 (bad-reject (oct s 0) k) (λ z. reached 2 (omega arith) (λ l. ended-there (Reject _) tt tt (some, no-bits 6 (oct s 0) k z, stands s 1 2 l)))
 
-    abort : oct s 0 / 16 ≡ 7 → Judged s (readAbort s)
+    abort : oct s 0 / 16 ≡ 7 → Judged edition s (readAbort s)
     unfolding readAbort
     abort k =
         low-bits 16 1 (bad-abort (oct s 0) k) (λ z.
@@ -192,10 +196,10 @@ module _ (s : List ℕ) where
         (some, made-of 7 _ _ _ _ (oct s 0) (record { kind = k; third = clear3 (oct s 0) (omega arith); second = clear2 (oct s 0) (omega arith); first = clear1 (oct s 0) (omega arith); last = refl }), stands s 1 2 l)))
 
   -- by its type, from the lowest up
-  typed : (k : ℕ) {this rest : Answer} → k ≤ oct s 0 / 16 → (oct s 0 / 16 ≡ k → Judged s this) → (k < oct s 0 / 16 → Judged s rest) → Judged s (pick (eqb (oct s 0 / 16) k) this rest)
-  typed k l f g = pick-cases (Judged s) (eqb (oct s 0 / 16) k) (λ e. f (eqb-true _ _ e)) (λ e. let n = eqb-false (oct s 0 / 16) k e in g (omega arith))
+  typed : (k : ℕ) {this rest : Answer} → k ≤ oct s 0 / 16 → (oct s 0 / 16 ≡ k → Judged edition s this) → (k < oct s 0 / 16 → Judged edition s rest) → Judged edition s (pick (eqb (oct s 0 / 16) k) this rest)
+  typed k l f g = pick-cases (Judged edition s) (eqb (oct s 0 / 16) k) (λ e. f (eqb-true _ _ e)) (λ e. let n = eqb-false (oct s 0 / 16) k e in g (omega arith))
 
-  pub judged : Judged s (readApdu s)
+  pub judged : Judged edition s (readApdu edition s)
   unfolding readApdu
   judged =
       reached 0 (omega arith) (λ some.

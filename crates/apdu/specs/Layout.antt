@@ -20,9 +20,9 @@ flag b = given b 1 0
 unfoldable pub firstOctet : ℕ → Bool → Bool → Bool → Bool → ℕ
 firstOctet kind b3 b2 b1 b0 = kind * 16 + flag b3 * 8 + flag b2 * 4 + flag b1 * 2 + flag b0
 
--- "octet 2 the size code 0 to 5, upper four bits zero" of a confirmed request
+-- octet 2 of a confirmed request: "the size code .. keeps bits 3 to 0", the code of segments accepted above it
 abbrev pub sizeOctet : RequestPdu → ℕ
-sizeOctet p = p .size
+sizeOctet p = p .accepts * 16 + p .size
 
 -- "if SEG, number and window; choice"
 unfoldable pub tail : Segment → ℕ → List ℕ

@@ -9,6 +9,7 @@ use lib.ListN.{length, drop}
 use lib.Dec.{ltb, eqb}
 use Rattle.octets.specs.Choice.{pick}
 use Rattle.octets.specs.Reading.{oct, reach, refuse}
+use Rattle.apdu.specs.declared.Edition.{Edition}
 use Rattle.apdu.specs.declared.Segment.{Segment}
 use Rattle.apdu.specs.declared.Pdu.{Pdu}
 use Rattle.apdu.specs.declared.Pdu.the-variants.{Request, Unconfirmed, SimpleAck, ComplexAck, SegmentAck, Error, Reject, Abort}
@@ -16,6 +17,7 @@ use Rattle.apdu.specs.declared.Answer.{Answer}
 use Rattle.apdu.specs.declared.Answer.the-variants.{Good, Refused}
 use Rattle.apdu.specs.declared.kinds.Tail.{Tail}
 use Rattle.apdu.specs.declared.kinds.Tail.the-variants.{Part, Broken}
+use Rattle.apdu.specs.Editions.{most}
 use Rattle.apdu.specs.Fields.{paramsAt}
 use Rattle.apdu.specs.Layout.{Apdu}
 
@@ -44,9 +46,13 @@ judgeWindow w broken rest = refuse (eqb w 0) broken (refuse (ltb 127 w) broken r
 abbrev pub judgeSize {ℓ} : {A : Type ℓ} → ℕ → A → A → A
 judgeSize size broken rest = refuse (ltb 5 size) broken rest
 
--- "octet 2 the size code 0 to 5, upper four bits zero"
-abbrev pub judgeSizeOctet : ℕ → Answer → Answer
-judgeSizeOctet x rest = refuse (ltb 15 x) (Refused 22) (judgeSize x (Refused 23) rest)
+-- the code of segments accepted, none above the edition's: "upper four bits zero", "Bit 7 stays zero"
+abbrev pub judgeCode {ℓ} : {A : Type ℓ} → Edition → ℕ → A → A → A
+judgeCode e code broken rest = refuse (ltb (most e) code) broken rest
+
+-- octet 2 of a request: the code in the upper four bits, the size code in the lower
+abbrev pub judgeSizeOctet : Edition → ℕ → Answer → Answer
+judgeSizeOctet e x rest = judgeCode e (x / 16) (Refused 22) (judgeSize (x % 16) (Refused 23) rest)
 
 -- "if SEG, number and window; choice", from a place on
 unfoldable pub readTail : List ℕ → ℕ → Tail
@@ -65,14 +71,14 @@ withTail (Part g choice) whole = Good (whole g choice)
 withTail (Broken n) whole = Refused n
 
 -- "0 confirmed request: bits 3 SEG, 2 MOR, 1 SA; octet 2 the size code; invoke; if SEG, number and window; choice; parameters"
-unfoldable pub readRequest : List ℕ → Answer
-readRequest s =
+unfoldable pub readRequest : Edition → List ℕ → Answer
+readRequest e s =
     refuse (ltb 0 (oct s 0 % 2)) (Refused 22)
     (refuse (morWithoutSeg (oct s 0)) (Refused 22)
     (reach s 1 (Refused 20)
-    (judgeSizeOctet (oct s 1)
+    (judgeSizeOctet e (oct s 1)
     (reach s 2 (Refused 20)
-    (withTail (readTail s 3) (λ g choice. Request (record { segment = g; sa = bit1 (oct s 0); size = oct s 1; invoke = oct s 2; choice = choice })))))))
+    (withTail (readTail s 3) (λ g choice. Request (record { segment = g; sa = bit1 (oct s 0); size = oct s 1 % 16; invoke = oct s 2; choice = choice; accepts = oct s 1 / 16 })))))))
 
 -- "1 unconfirmed: choice; parameters"
 unfoldable pub readUnconfirmed : List ℕ → Answer
@@ -130,10 +136,10 @@ readAbort s =
     (Good (Abort (record { srv = bit0 (oct s 0); invoke = oct s 1; reason = oct s 2 })))))
 
 -- "High four bits of the first octet are the type."
-unfoldable pub readApdu : List ℕ → Answer
-readApdu s =
+unfoldable pub readApdu : Edition → List ℕ → Answer
+readApdu e s =
     reach s 0 (Refused 20)
-    (pick (eqb (oct s 0 / 16) 0) (readRequest s)
+    (pick (eqb (oct s 0 / 16) 0) (readRequest e s)
     (pick (eqb (oct s 0 / 16) 1) (readUnconfirmed s)
     (pick (eqb (oct s 0 / 16) 2) (readSimpleAck s)
     (pick (eqb (oct s 0 / 16) 3) (readComplexAck s)
@@ -144,5 +150,5 @@ readApdu s =
     (Refused 21)))))))))
 
 -- the reading of the octets gives this PDU and these parameters
-abbrev pub Reads : List ℕ → Apdu → Type 0
-Reads s a = (readApdu s ≡ Good (a .pdu)) × (drop (paramsAt (a .pdu)) s ≡ a .parameters)
+abbrev pub Reads : Edition → List ℕ → Apdu → Type 0
+Reads e s a = (readApdu e s ≡ Good (a .pdu)) × (drop (paramsAt (a .pdu)) s ≡ a .parameters)

@@ -2,6 +2,7 @@
 use super::AbortPdu;
 use super::Answer;
 use super::ComplexAckPdu;
+use super::Edition;
 use super::ErrorPdu;
 use super::Pdu;
 use super::RejectPdu;
@@ -64,9 +65,9 @@ pub fn read_tail(s: &[u8], at: usize) -> Tail
     )
 }
 
-pub fn read_request(s: &[u8]) -> Answer
+pub fn read_request(edition: Edition, s: &[u8]) -> Answer
     requires { ⌜ 0 < length (now s) ⌝ }
-    ensures { λ r. ⌜ r ≡ readRequest (now (s .entry)) ⌝ }
+    ensures { λ r. ⌜ r ≡ readRequest edition (now (s .entry)) ⌝ }
 {
     if 0 < s[0] % 2 {
         return Answer::Refused(22);
@@ -77,10 +78,10 @@ pub fn read_request(s: &[u8]) -> Answer
     if s.len() <= 1 {
         return Answer::Refused(20);
     }
-    if 15 < s[1] {
+    if super::most(edition) < s[1] / 16 {
         return Answer::Refused(22);
     }
-    if 5 < s[1] {
+    if 5 < s[1] % 16 {
         return Answer::Refused(23);
     }
     if s.len() <= 2 {
@@ -90,9 +91,10 @@ pub fn read_request(s: &[u8]) -> Answer
         Tail::Part(segment, choice) => Answer::Good(Pdu::Request(RequestPdu {
             segment,
             sa: s[0] % 4 / 2 == 1,
-            size: s[1],
+            size: s[1] % 16,
             invoke: s[2],
             choice,
+            accepts: s[1] / 16,
         })),
         Tail::Broken(n) => Answer::Refused(n),
     }

@@ -1,9 +1,27 @@
 // APDU headers (clause 20.1): the eight kinds of PDU, and their reading.
 ghost use mathlib.Core.Path.{_≡_};
+ghost use Rattle.apdu.specs.Editions.{most};
 ghost use Rattle.apdu.specs.Reading.{readApdu};
 
 mod kinds; // kinds.rt: a reader for each kind of PDU
 pub mod fields; // fields.rt: what every kind of PDU can be asked
+
+// The edition of the standard by which confirmed requests are read and written: the first, of 1995, or the later one,
+// which uses bits 6 to 4 of their second octet for the segments they accept.
+pub enum Edition {
+    First,
+    Later,
+}
+
+// The greatest code of segments accepted that an edition has: with 0 alone, bits 7 to 4 of the second octet are zero bits.
+pub fn most(edition: Edition) -> u8
+    ensures { λ r. ⌜ r ≡ most edition ⌝ }
+{
+    match edition {
+        Edition::First => 0,
+        Edition::Later => 7,
+    }
+}
 
 // What a confirmed request and a complex ack say of segments. Without SEG, number and window are absent: 0 as read.
 pub struct Segment {
@@ -13,12 +31,14 @@ pub struct Segment {
     pub window: u8,
 }
 
+// Segments accepted: 0 unspecified, 1 to 6 for 2, 4, 8, 16, 32 and 64, 7 for more than 64; 0 in the 1995 edition.
 pub struct RequestPdu {
     pub segment: Segment,
     pub sa: bool,
     pub size: u8,
     pub invoke: u8,
     pub choice: u8,
+    pub accepts: u8,
 }
 
 pub struct UnconfirmedPdu {
@@ -79,14 +99,14 @@ pub enum Answer {
 }
 
 // The high four bits of the first octet are the type.
-pub fn read(s: &[u8]) -> Answer
-    ensures { λ r. ⌜ r ≡ readApdu (now (s .entry)) ⌝ }
+pub fn read(edition: Edition, s: &[u8]) -> Answer
+    ensures { λ r. ⌜ r ≡ readApdu edition (now (s .entry)) ⌝ }
 {
     if s.len() <= 0 {
         return Answer::Refused(20);
     }
     match s[0] / 16 {
-        0 => kinds::read_request(s),
+        0 => kinds::read_request(edition, s),
         1 => kinds::read_unconfirmed(s),
         2 => kinds::read_simple_ack(s),
         3 => kinds::read_complex_ack(s),

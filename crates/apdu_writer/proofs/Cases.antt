@@ -10,10 +10,14 @@ use Rattle.octets.specs.Splice.{splice}
 use Rattle.apdu.specs.declared.Pdu.{Pdu}
 use Rattle.apdu.specs.declared.Segment.{Segment}
 use Rattle.apdu.specs.Layout.{tail, header}
+use Rattle.apdu.specs.Rows.{Fits}
 
--- an area that holds the header holds as many octets as the header of its kind has
-pub kind-fits : (p q : Pdu) (k n : ℕ) → p ≡ q → length (header q) ≡ k → length (header p) ≤ n → k ≤ n
-kind-fits p q k n e d h = rw (← d, ← e) h
+-- an area that holds the header holds that of its kind, and as many octets as that one has
+pub kind-holds : (p q : Pdu) (n : ℕ) → p ≡ q → (length (header p) ≤ n) × Fits p → (length (header q) ≤ n) × Fits q
+kind-holds p q n e h = rw e at h
+
+pub kind-fits : (p q : Pdu) (k n : ℕ) → p ≡ q → length (header q) ≡ k → (length (header p) ≤ n) × Fits p → k ≤ n
+kind-fits p q k n e d h = rw (← d, ← e) (h .0)
 
 -- and octets laid that are the header of its kind are its header
 pub kind-laid : (p q : Pdu) (o area later : List ℕ) → p ≡ q → later ≡ splice area 0 o → o ≡ header q → later ≡ splice area 0 (header p)

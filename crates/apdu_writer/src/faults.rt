@@ -1,11 +1,12 @@
 // The number of the first field in octet order that breaks a rule; 0 where none does.
 use apdu::ComplexAckPdu;
+use apdu::Edition;
 use apdu::Pdu;
 use apdu::RequestPdu;
 use apdu::Segment;
 ghost use mathlib.Core.Path.{_≡_};
-ghost use Rattle.apdu.specs.Fault.{morFault, windowFault, segmentFault, faultOf};
-ghost use Rattle.apdu.specs.declared.Pdu.the-variants.{Request, ComplexAck};
+ghost use Rattle.apdu.specs.Fault.{morFault, windowFault, segmentFault, orElse, faultOf};
+ghost use Rattle.apdu.specs.declared.Pdu.the-variants.{Request};
 
 // MOR needs SEG.
 fn mor_fault(g: Segment) -> u8
@@ -46,13 +47,16 @@ fn segment_fault(g: Segment) -> u8
     0
 }
 
-fn request_fault(p: RequestPdu) -> u8
-    ensures { λ r. ⌜ r ≡ faultOf (Request p) ⌝ }
+fn request_fault(edition: Edition, p: RequestPdu) -> u8
+    ensures { λ r. ⌜ r ≡ faultOf edition (Request p) ⌝ }
 {
     let g = p.segment;
     let mor = mor_fault(g);
     if mor != 0 {
         return mor;
+    }
+    if apdu::most(edition) < p.accepts {
+        return 22;
     }
     if 5 < p.size {
         return 23;
@@ -61,7 +65,7 @@ fn request_fault(p: RequestPdu) -> u8
 }
 
 fn complex_ack_fault(p: ComplexAckPdu) -> u8
-    ensures { λ r. ⌜ r ≡ faultOf (ComplexAck p) ⌝ }
+    ensures { λ r. ⌜ r ≡ orElse (morFault (p .segment)) (segmentFault (p .segment)) ⌝ }
 {
     let g = p.segment;
     let mor = mor_fault(g);
@@ -71,11 +75,11 @@ fn complex_ack_fault(p: ComplexAckPdu) -> u8
     segment_fault(g)
 }
 
-pub fn fault_of(p: Pdu) -> u8
-    ensures { λ r. ⌜ r ≡ faultOf p ⌝ }
+pub fn fault_of(edition: Edition, p: Pdu) -> u8
+    ensures { λ r. ⌜ r ≡ faultOf edition p ⌝ }
 {
     match p {
-        Pdu::Request(q) => request_fault(q),
+        Pdu::Request(q) => request_fault(edition, q),
         Pdu::Unconfirmed(_) => 0,
         Pdu::SimpleAck(_) => 0,
         Pdu::ComplexAck(q) => complex_ack_fault(q),

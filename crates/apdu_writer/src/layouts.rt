@@ -10,6 +10,7 @@ ghost use lib.ListN.{length};
 ghost use Prim.Native.Nat.{_+_, _≤_};
 ghost use Rattle.octets.specs.Splice.{splice};
 ghost use Rattle.apdu.specs.Layout.{flag, firstOctet, tail, header};
+ghost use Rattle.apdu.specs.Rows.{Fits};
 ghost use Rattle.apdu.specs.declared.Pdu.the-variants.{Request, ComplexAck, SegmentAck};
 
 fn flag_of(b: bool) -> u8
@@ -61,7 +62,7 @@ fn put_tail(out: &mut [u8], at: usize, g: Segment, choice: u8)
 }
 
 fn put_request(p: RequestPdu, out: &mut [u8])
-    requires { ⌜ length (header (Request p)) ≤ length (now out) ⌝ }
+    requires { ⌜ (length (header (Request p)) ≤ length (now out)) × Fits (Request p) ⌝ }
     ensures { λ _. ⌜ now (out .exit) ≡ splice (now (out .entry)) 0 (header (Request p)) ⌝ }
 {
     let g = p.segment;
@@ -69,7 +70,7 @@ fn put_request(p: RequestPdu, out: &mut [u8])
         out,
         0,
         first_octet(0, g.seg, g.mor, p.sa, false),
-        p.size,
+        p.accepts * 16 + p.size,
         p.invoke,
     );
     put_tail(out, 3, g, p.choice);
@@ -93,7 +94,7 @@ fn put_segment_ack(p: SegmentAckPdu, out: &mut [u8])
 }
 
 pub fn put_header(p: Pdu, out: &mut [u8])
-    requires { ⌜ length (header p) ≤ length (now out) ⌝ }
+    requires { ⌜ (length (header p) ≤ length (now out)) × Fits p ⌝ }
     ensures { λ _. ⌜ now (out .exit) ≡ splice (now (out .entry)) 0 (header p) ⌝ }
 {
     match p {

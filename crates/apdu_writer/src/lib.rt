@@ -1,4 +1,5 @@
 // APDU headers (clause 20.1), written into a lent area. The caller lays the parameters after the header.
+use apdu::Edition;
 use apdu::Pdu;
 use octets::Written;
 ghost use Rattle.apdu_writer.specs.Calls.{Writes};
@@ -7,10 +8,10 @@ mod faults; // faults.rt: the first field that breaks a rule
 mod layouts; // layouts.rt: the octets of each kind
 
 // The header of a PDU at the area's front: the octets written, or the number of the refusal.
-pub fn write(p: Pdu, out: &mut [u8]) -> Written
-    ensures { λ r. ⌜ Writes p (now (out .entry)) r (now (out .exit)) ⌝ }
+pub fn write(edition: Edition, p: Pdu, out: &mut [u8]) -> Written
+    ensures { λ r. ⌜ Writes edition p (now (out .entry)) r (now (out .exit)) ⌝ }
 {
-    let fault = faults::fault_of(p);
+    let fault = faults::fault_of(edition, p);
     if fault != 0 {
         return Written::Refused(fault);
     }

@@ -6,13 +6,13 @@ use hitchbarley::header_calls;
 use hitchbarley::item_calls;
 use hitchbarley::service_calls;
 
-// npdu-read, npdu-write, apdu-read, apdu-write
-fn header(k: u8, octets: &[u8], out: &mut [u8], n: &mut usize) -> u8 {
+// npdu-read, npdu-write, apdu-read, apdu-write; the last two by the edition that `later` says
+fn header(k: u8, later: u8, octets: &[u8], out: &mut [u8], n: &mut usize) -> u8 {
     match k {
         0 => header_calls::hb_npdu_read(octets, out, n),
         1 => header_calls::hb_npdu_write(octets, out, n),
-        2 => header_calls::hb_apdu_read(octets, out, n),
-        _ => header_calls::hb_apdu_write(octets, out, n),
+        2 => header_calls::hb_apdu_read(octets, later, out, n),
+        _ => header_calls::hb_apdu_write(octets, later, out, n),
     }
 }
 
@@ -43,7 +43,7 @@ fn read(s: &[u8], octets: &[u8], out: &mut [u8]) -> u8 {
 
 fn made(k: u8, s: &[u8], one: &[u8], two: &[u8], out: &mut [u8], n: &mut usize) -> u8 {
     if k < 4 {
-        return header(k, one, out, n);
+        return header(k, text::edition(s), one, out, n);
     }
     if k < 8 {
         return item(k, one, text::first(s), out, n);

@@ -100,6 +100,11 @@ pub fn third(s: &[u8]) -> usize {
     number(s, after(s, after(s, after(s, 0, b' '), b' '), b' '))
 }
 
+// The second as the edition of a fresh state or of a header: 0 is 1995, and so is none.
+pub fn edition(s: &[u8]) -> u8 {
+    (second(s) % 256) as u8
+}
+
 // An octet laid at a place, where there is room; the place after it.
 pub fn put(out: &mut [u8], to: usize, x: u8) -> usize {
     if to < out.len() {

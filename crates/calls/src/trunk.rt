@@ -22,10 +22,10 @@ fn set_area(s: &[u8], area: &mut [u8]) -> usize {
 }
 
 // fresh: the state area's size.
-fn fresh(size: usize, state: &mut [u8]) -> usize {
+fn fresh(size: usize, later: u8, state: &mut [u8]) -> usize {
     text::fill(state, 0, 0xEE, size);
     let n = text::within(state, size);
-    print::start(trunk_calls::hb_fresh(&mut state[..n]));
+    print::start(trunk_calls::hb_fresh(&mut state[..n], later));
     print::end();
     print::area(b"  state", show::part(state, 0, n));
     n
@@ -35,7 +35,7 @@ fn fresh(size: usize, state: &mut [u8]) -> usize {
 fn set(k: u8, s: &[u8], z: Sizes, state: &mut [u8], area: &mut [u8]) -> Sizes {
     if k == 16 {
         return Sizes {
-            state: fresh(text::first(s), state),
+            state: fresh(text::first(s), text::edition(s), state),
             area: z.area,
         };
     }

@@ -13,6 +13,7 @@ use Rattle.octets.specs.Reading.{oct}
 use Rattle.npdu.specs.Reading.{readNpdu}
 use Rattle.npdu.specs.declared.Reading.{Reading}
 use Rattle.apdu.specs.Reading.{readApdu}
+use Rattle.apdu.specs.declared.Edition.{Edition}
 use Rattle.apdu.specs.declared.Pdu.{Pdu}
 use Rattle.apdu.specs.declared.Answer as Apdu
 use Rattle.apdu.specs.declared.Answer.{Answer}
@@ -37,7 +38,7 @@ use Rattle.recordings.specs.Frames.{actOn, rules}
 use Rattle.reports.specs.Layout.{reportOctets}
 use Rattle.reports.specs.Kinds.{otherFrame, refusal, networkMessage}
 use Rattle.reports.specs.declared.Report.{Report}
-use Rattle.collector.specs.Heard.{heardOf, Route, routeOf, partsOf}
+use Rattle.collector.specs.Heard.{frameOf, heardOf, Route, routeOf, partsOf}
 use Rattle.collector.specs.Frame.{Content, segmentFrom, segmentIn, plainReport, stepReport, apduContent, npduContent, contentOf, contents, bacnet}
 use Rattle.collector.specs.Frame.Content.{other, refuses, network, refusesBehind, message}
 use Rattle.collector.specs.Acting.{acting, carrying, Acted, ActedAlone, Kept, Named}
@@ -93,36 +94,36 @@ module _ (t : Slots) (g : Segment) (o area : List ℕ) (z : length area ≡ 6553
   named f = named-by f (r .answer) refl
 
 -- ---- an APDU, x being the answer of its reading: refused, no segment, a segment
-module _ (w : Heard) (v : Route) (a : List ℕ) (t : Slots) (area : List ℕ) {x : Answer} {report : List ℕ} (e : x ≡ readApdu a) where
-  pub apdu-turned : {n : ℕ} → x ≡ Apdu.the-variants.Refused n → report ≡ reportOctets (refusal (w .frame) n) → Acted (acting w (apduContent v a (readApdu a)) (view t) area) t report area
-  apdu-turned {n} q h = acted-as w (view t) area (apdu-refused v a n e q) (acted-plain w (refusesBehind v n) t area refl h)
+module _ (w : Heard) (v : Route) (a : List ℕ) (t : Slots) (area : List ℕ) {x : Answer} {report : List ℕ} (e : x ≡ readApdu (w .edition) a) where
+  pub apdu-turned : {n : ℕ} → x ≡ Apdu.the-variants.Refused n → report ≡ reportOctets (refusal (w .frame) n) → Acted (acting w (apduContent v a (readApdu (w .edition) a)) (view t) area) t report area
+  apdu-turned {n} q h = acted-as w (view t) area (apdu-refused (w .edition) v a n e q) (acted-plain w (refusesBehind v n) t area refl h)
 
   pub apdu-alone : {p : Pdu} {m : Parts} → x ≡ Good p → m ≡ partsOf p (oct a 0) → m .segment .seg ≡ false → ((v : Route) → report ≡ reportOctets (plainReport w (message v m a)))
-      → Acted (acting w (apduContent v a (readApdu a)) (view t) area) t report area
-  apdu-alone {p} {m} q k s h = acted-as w (view t) area (apdu-good v a p e q k) (acted-plain w (message v m a) t area (no-segment w v m a s) (h v))
+      → Acted (acting w (apduContent v a (readApdu (w .edition) a)) (view t) area) t report area
+  apdu-alone {p} {m} q k s h = acted-as w (view t) area (apdu-good (w .edition) v a p e q k) (acted-plain w (message v m a) t area (no-segment w v m a s) (h v))
 
   pub apdu-part : {p : Pdu} {m : Parts} {u : Slots} {area′ : List ℕ} → x ≡ Good p → m ≡ partsOf p (oct a 0) → ((v : Route) → Acted (acting w (message v m a) (view t) area) u report area′)
-      → Acted (acting w (apduContent v a (readApdu a)) (view t) area) u report area′
-  apdu-part {p} q k h = acted-as w (view t) area (apdu-good v a p e q k) (h v)
+      → Acted (acting w (apduContent v a (readApdu (w .edition) a)) (view t) area) u report area′
+  apdu-part {p} q k h = acted-as w (view t) area (apdu-good (w .edition) v a p e q k) (h v)
 
 -- ---- a frame of type 5 or 6, n being the answer of its network header: refused, a network layer message, an APDU
 module _ (w : Heard) (payload : List ℕ) (t : Slots) (area : List ℕ) {n : Reading} {report : List ℕ} (e : n ≡ readNpdu payload) where
-  pub npdu-turned : 0 < n .refused → report ≡ reportOctets (refusal (w .frame) (n .refused)) → Acted (acting w (npduContent payload (readNpdu payload)) (view t) area) t report area
-  npdu-turned f h = acted-as w (view t) area (npdu-refused payload n e f) (acted-plain w (refuses (n .refused)) t area refl h)
+  pub npdu-turned : 0 < n .refused → report ≡ reportOctets (refusal (w .frame) (n .refused)) → Acted (acting w (npduContent (w .edition) payload (readNpdu payload)) (view t) area) t report area
+  npdu-turned f h = acted-as w (view t) area (npdu-refused (w .edition) payload n e f) (acted-plain w (refuses (n .refused)) t area refl h)
 
   pub npdu-spoken : n .refused ≤ 0 → n .head .message ≡ true → {r : Report} → r ≡ networkMessage (w .frame) (length payload - n .next) → report ≡ reportOctets r
-      → Acted (acting w (npduContent payload (readNpdu payload)) (view t) area) t report area
-  npdu-spoken f m q h = acted-as w (view t) area (npdu-network payload n e f m) (acted-plain w (network (routeOf (n .head)) (length payload - n .next)) t area refl (h ∙ ap reportOctets q))
+      → Acted (acting w (npduContent (w .edition) payload (readNpdu payload)) (view t) area) t report area
+  npdu-spoken f m q h = acted-as w (view t) area (npdu-network (w .edition) payload n e f m) (acted-plain w (network (routeOf (n .head)) (length payload - n .next)) t area refl (h ∙ ap reportOctets q))
 
   -- the octets behind the header, as the code lends them
   pub npdu-on : n .refused ≤ 0 → n .head .message ≡ false → {u : Slots} {area′ : List ℕ}
-      → (let a = take (length payload - n .next) (drop (n .next) payload) in (v : Route) → Acted (acting w (apduContent v a (readApdu a)) (view t) area) u report area′)
-      → Acted (acting w (npduContent payload (readNpdu payload)) (view t) area) u report area′
-  npdu-on f m h = acted-as w (view t) area (npdu-apdu payload n e f m) (rw (part-rest payload (n .next)) at (h (routeOf (n .head))))
+      → (let a = take (length payload - n .next) (drop (n .next) payload) in (v : Route) → Acted (acting w (apduContent v a (readApdu (w .edition) a)) (view t) area) u report area′)
+      → Acted (acting w (npduContent (w .edition) payload (readNpdu payload)) (view t) area) u report area′
+  npdu-on f m h = acted-as w (view t) area (npdu-apdu (w .edition) payload n e f m) (rw (part-rest payload (n .next)) at (h (routeOf (n .head))))
 
 -- ---- a good frame, by its type
 module _ (w : Heard) (payload : List ℕ) (t : Slots) (area : List ℕ) {report : List ℕ} where
-  module _ {u : Slots} {area′ : List ℕ} (h : Acted (acting w (npduContent payload (readNpdu payload)) (view t) area) u report area′) where
+  module _ {u : Slots} {area′ : List ℕ} (h : Acted (acting w (npduContent (w .edition) payload (readNpdu payload)) (view t) area) u report area′) where
     pub frame-5 : w .frame .kind ≡ 5 → Acted (acting w (contentOf w payload) (view t) area) u report area′
     frame-5 k = acted-as w (view t) area (content-5 w payload k) h
 
@@ -135,25 +136,26 @@ module _ (w : Heard) (payload : List ℕ) (t : Slots) (area : List ℕ) {report 
 
 -- the same by what the code asks: whether the frame carries a network header
 module _ (w : Heard) (payload : List ℕ) {report : List ℕ} where
-  pub frame-carried : carrying w ≡ true → (t : Slots) (area : List ℕ) {u : Slots} {area′ : List ℕ}
-      → Acted (acting w (npduContent payload (readNpdu payload)) (view t) area) u report area′ → Acted (acting w (contentOf w payload) (view t) area) u report area′
+  pub frame-carried : carrying (w .frame .kind) ≡ true → (t : Slots) (area : List ℕ) {u : Slots} {area′ : List ℕ}
+      → Acted (acting w (npduContent (w .edition) payload (readNpdu payload)) (view t) area) u report area′ → Acted (acting w (contentOf w payload) (view t) area) u report area′
   frame-carried k t area h =
       by-test (eqb (w .frame .kind) 5)
       (λ a. frame-5 w payload t area h (eqb-true (w .frame .kind) 5 a))
       (λ a. frame-6 w payload t area h (eqb-false (w .frame .kind) 5 a) (eqb-true (w .frame .kind) 6 (rw a at k)))
 
-  pub frame-uncarried : carrying w ≡ false → {r : Report} → r ≡ otherFrame (w .frame) (length payload) → report ≡ reportOctets r → ActedAlone w (contentOf w payload) report
-  frame-uncarried k q h t area =
-      by-test (eqb (w .frame .kind) 5)
-      (λ a. impossible (let z : true ≡ false = rw a at k in cc))
-      (λ a. frame-other w payload t area (eqb-false (w .frame .kind) 5 a) (eqb-false (w .frame .kind) 6 (rw a at k)) q h)
+pub frame-uncarried : (head payload : List ℕ) {report : List ℕ} → carrying (oct head 0) ≡ false → {r : Report} → r ≡ otherFrame (frameOf head) (length payload) → report ≡ reportOctets r
+    → ActedAlone head payload report
+frame-uncarried head payload k q h e t area =
+    by-test (eqb (oct head 0) 5)
+    (λ a. impossible (let z : true ≡ false = rw a at k in cc))
+    (λ a. frame-other (heardOf e head) payload t area (eqb-false (oct head 0) 5 a) (eqb-false (oct head 0) 6 (rw a at k)) q h)
 
 -- ---- the rules that demand 3 is stated over
-pub acts-frame : (head payload : List ℕ) (s : List (Messages.Slot Key)) (area : List ℕ)
-    → rules keys bacnet .act (whole head payload) s area ≡ acting (heardOf head) (contentOf (heardOf head) payload) s area
+pub acts-frame : (edition : Edition) (head payload : List ℕ) (s : List (Messages.Slot Key)) (area : List ℕ)
+    → rules keys (bacnet edition) .act (whole head payload) s area ≡ acting (heardOf edition head) (contentOf (heardOf edition head) payload) s area
 unfolding acting
-acts-frame head payload s area = by-segment (segmentIn (heardOf head) (contentOf (heardOf head) payload))
+acts-frame edition head payload s area = by-segment (segmentIn (heardOf edition head) (contentOf (heardOf edition head) payload))
   where
-    by-segment : (y : Option (Messages.Segment Key)) → actOn keys bacnet y (whole head payload) s area ≡ actOn keys (contents (heardOf head)) y (contentOf (heardOf head) payload) s area
+    by-segment : (y : Option (Messages.Segment Key)) → actOn keys (bacnet edition) y (whole head payload) s area ≡ actOn keys (contents (heardOf edition head)) y (contentOf (heardOf edition head) payload) s area
     by-segment none = refl
     by-segment (some g) = refl

@@ -7,6 +7,7 @@ use native.Mathlib.Omega.{arith}
 use lib.ListN.{length, take}
 use borrow.Author.Tests.{eq-eqb, ne-eqb}
 use Rattle.octets.specs.Choice.{pick, both, pick-case}
+use Rattle.apdu.specs.declared.Edition.{Edition}
 use Rattle.frames.specs.declared.Outcome.the-variants.{Quiet, Frame, Damage}
 use Rattle.frames.specs.declared.Link.{Link}
 use Rattle.frames.specs.declared.Receiver.{Receiver}
@@ -55,11 +56,11 @@ slots-pass c n e = ap (λ (b : Bool). pick (both (soundOf (c .receiver)) b) n 59
 abbrev unfedBy : ℕ → Collector → Fed
 unfedBy n c = record { refused = n; eaten = 0; reported = false; state = c }
 
-tells-not : (n : ℕ) (c : Collector) (report area : List ℕ) → Tells n (unmoved (c .receiver) (slotsOf c) area) report (unfedBy n c) report area
-tells-not n c report area = record { refused = refl; eaten = refl; reported = refl; receiver = refl; slots = refl; reportAfter = refl; areaAfter = refl }
+tells-not : (n : ℕ) (c : Collector) (report area : List ℕ) → Tells (c .edition) n (unmoved (c .receiver) (slotsOf c) area) report (unfedBy n c) report area
+tells-not n c report area = record { refused = refl; eaten = refl; reported = refl; edition = refl; receiver = refl; slots = refl; reportAfter = refl; areaAfter = refl }
 
 module _ (c : Collector) (report area piece : List ℕ) where
-  tells-by : {n : ℕ} {d : Answered} {r : Fed} {report′ area′ : List ℕ} → feedRefusal c report area ≡ n → feeding c report area piece ≡ d → Tells n d report r report′ area′
+  tells-by : {n : ℕ} {d : Answered} {r : Fed} {report′ area′ : List ℕ} → feedRefusal c report area ≡ n → feeding c report area piece ≡ d → Tells (c .edition) n d report r report′ area′
       → Feeds c report area piece r report′ area′
   tells-by e q h = rw (e, q) h
 
@@ -80,19 +81,19 @@ module _ (c : Collector) (report area piece : List ℕ) where
 
     -- past the refusals it is the receiver's answer and then the rules
     pub feeds-on : passing (slotsOf c) ≡ true → {f : Ended} {r : Fed} {report′ area′ : List ℕ} → f ≡ feedOf (c .receiver) piece
-        → Tells (f .refused) (ruled (rules keys bacnet) (slotsOf c) area f) report r report′ area′ → Feeds c report area piece r report′ area′
+        → Tells (c .edition) (f .refused) (ruled (rules keys (bacnet (c .edition))) (slotsOf c) area f) report r report′ area′ → Feeds c report area piece r report′ area′
     unfolding feedRefusal feeding
     feeds-on p {f = f} e h =
         let fed = feedOf (c .receiver) piece in
         let n : feedRefusal c report area ≡ f .refused =
         rw (eq-eqb (length report) reportSize k, eq-eqb (length area) 65536 z) (slots-pass c 0 p ∙ sym (feed-refused (c .receiver) piece) ∙ ap (λ (f : Ended). f .refused) (sym e)) in
-        let d : feeding c report area piece ≡ ruled (rules keys bacnet) (slotsOf c) area f =
-        rw (eq-eqb (length report) reportSize k, eq-eqb (length area) 65536 z, p) (ap (λ (f : Ended). ruled (rules keys bacnet) (slotsOf c) area f) (sym e)) in
+        let d : feeding c report area piece ≡ ruled (rules keys (bacnet (c .edition))) (slotsOf c) area f =
+        rw (eq-eqb (length report) reportSize k, eq-eqb (length area) 65536 z, p) (ap (λ (f : Ended). ruled (rules keys (bacnet (c .edition))) (slotsOf c) area f) (sym e)) in
         tells-by n d h
 
 -- over a lent store
-pub eats-not : {n : ℕ} {l : Link} {t : Slots} {store report area piece : List ℕ} {r : Ate} → r ≡ Lent.unfedBy n l t → Feeds (over l t store) report area piece (unfedBy n (over l t store)) report area
-    → Eats l t store report area piece r store report area
+pub eats-not : {n : ℕ} {edition : Edition} {l : Link} {t : Slots} {store report area piece : List ℕ} {r : Ate} → r ≡ Lent.unfedBy n l t → Feeds (over edition l t store) report area piece (unfedBy n (over edition l t store)) report area
+    → Eats edition l t store report area piece r store report area
 eats-not e h = rw e (record { feeds = h; kept = λ z. refl })
 
 -- a good frame's data lie in the store
@@ -126,24 +127,24 @@ pub payload-fits : (n : ℕ) (s : List ℕ) → n ≤ 501 → length (take n s) 
 payload-fits n s h = let k = take-most n s in omega arith
 
 -- the receiver's answer, by its outcome
-module _ (f : Ended) (s : Slots) (report area : List ℕ) where
+module _ (edition : Edition) (f : Ended) (s : Slots) (report area : List ℕ) where
   pub tells-quiet : f .outcome ≡ Quiet
-      → Tells (f .refused) (ruled (rules keys bacnet) (view s) area f) report (record { refused = f .refused; eaten = f .eaten; reported = false; state = record { receiver = f .receiver; slots = s } }) report area
-  tells-quiet e = rw e (record { refused = refl; eaten = refl; reported = refl; receiver = refl; slots = refl; reportAfter = refl; areaAfter = refl })
+      → Tells edition (f .refused) (ruled (rules keys (bacnet edition)) (view s) area f) report (record { refused = f .refused; eaten = f .eaten; reported = false; state = record { edition = edition; receiver = f .receiver; slots = s } }) report area
+  tells-quiet e = rw e (record { refused = refl; eaten = refl; reported = refl; edition = refl; receiver = refl; slots = refl; reportAfter = refl; areaAfter = refl })
 
   pub tells-damage : (n : ℕ) {report′ : List ℕ} → f .outcome ≡ Damage n → report′ ≡ damageOctets n
-      → Tells (f .refused) (ruled (rules keys bacnet) (view s) area f) report (record { refused = f .refused; eaten = f .eaten; reported = true; state = record { receiver = f .receiver; slots = s } }) report′ area
-  tells-damage n e h = rw e (record { refused = refl; eaten = refl; reported = refl; receiver = refl; slots = refl; reportAfter = h; areaAfter = refl })
+      → Tells edition (f .refused) (ruled (rules keys (bacnet edition)) (view s) area f) report (record { refused = f .refused; eaten = f .eaten; reported = true; state = record { edition = edition; receiver = f .receiver; slots = s } }) report′ area
+  tells-damage n e h = rw e (record { refused = refl; eaten = refl; reported = refl; edition = refl; receiver = refl; slots = refl; reportAfter = h; areaAfter = refl })
 
   pub tells-frame : {t : Slots} {report′ area′ : List ℕ} → f .outcome ≡ Frame
       → (let head = f .receiver .link .head in
-      let w = heardOf head in
+      let w = heardOf edition head in
       Acted (acting w (contentOf w (take (lengthOf head) (f .receiver .store))) (view s) area) t report′ area′)
-      → Tells (f .refused) (ruled (rules keys bacnet) (view s) area f) report (record { refused = f .refused; eaten = f .eaten; reported = true; state = record { receiver = f .receiver; slots = t } }) report′ area′
+      → Tells edition (f .refused) (ruled (rules keys (bacnet edition)) (view s) area f) report (record { refused = f .refused; eaten = f .eaten; reported = true; state = record { edition = edition; receiver = f .receiver; slots = t } }) report′ area′
   tells-frame e h =
       let head = f .receiver .link .head in
-      let w = acts-frame head (take (lengthOf head) (f .receiver .store)) (view s) area in
-      rw e (record { refused = refl; eaten = refl; reported = refl; receiver = refl; slots = rw w (h .slots); reportAfter = rw w (h .said); areaAfter = rw w (h .left) })
+      let w = acts-frame edition head (take (lengthOf head) (f .receiver .store)) (view s) area in
+      rw e (record { refused = refl; eaten = refl; reported = refl; edition = refl; receiver = refl; slots = rw w (h .slots); reportAfter = rw w (h .said); areaAfter = rw w (h .left) })
 
 -- ---- a silence
 -- one that reports nothing, or is refused
@@ -151,11 +152,11 @@ abbrev quietBy : ℕ → Collector → Fell
 quietBy n c = record { refused = n; reported = false; state = c }
 
 module _ (c : Collector) (report : List ℕ) where
-  falls-by : {n : ℕ} {d : Answered} {r : Fell} {report′ : List ℕ} → silenceRefusal c report ≡ n → stilling c report [] ≡ d → Falls n d report r report′ → Stills c report r report′
+  falls-by : {n : ℕ} {d : Answered} {r : Fell} {report′ : List ℕ} → silenceRefusal c report ≡ n → stilling c report [] ≡ d → Falls (c .edition) n d report r report′ → Stills c report r report′
   falls-by e q h = rw (e, q) h
 
-  falls-not : (n : ℕ) → Falls n (unmoved (c .receiver) (slotsOf c) []) report (quietBy n c) report
-  falls-not n = record { refused = refl; reported = refl; receiver = refl; slots = refl; reportAfter = refl }
+  falls-not : (n : ℕ) → Falls (c .edition) n (unmoved (c .receiver) (slotsOf c) []) report (quietBy n c) report
+  falls-not n = record { refused = refl; reported = refl; edition = refl; receiver = refl; slots = refl; reportAfter = refl }
 
   pub stills-line : (length report ≡ reportSize → ⊥) → Stills c report (quietBy 60 c) report
   unfolding silenceRefusal stilling
@@ -166,7 +167,7 @@ module _ (c : Collector) (report : List ℕ) where
   stills-slots k e = falls-by (rw (eq-eqb (length report) reportSize k) (slots-59 c 0 e)) (rw (eq-eqb (length report) reportSize k, e)) (falls-not 59)
 
   pub stills-on : length report ≡ reportSize → passing (slotsOf c) ≡ true → {f : Still} {r : Fell} {report′ : List ℕ} → f ≡ silenceOf (c .receiver)
-      → Falls (f .refused) (stilled damageOctets (slotsOf c) [] f) report r report′ → Stills c report r report′
+      → Falls (c .edition) (f .refused) (stilled damageOctets (slotsOf c) [] f) report r report′ → Stills c report r report′
   unfolding silenceRefusal stilling
   stills-on k p {f = f} e h =
       let n : silenceRefusal c report ≡ f .refused =
@@ -175,26 +176,26 @@ module _ (c : Collector) (report : List ℕ) where
       rw (eq-eqb (length report) reportSize k, p) (ap (λ (f : Still). stilled damageOctets (slotsOf c) [] f) (sym e)) in
       falls-by n d h
 
-module _ (f : Still) (s : Slots) (report : List ℕ) where
-  pub falls-quiet : f .outcome ≡ Quiet → Falls (f .refused) (stilled damageOctets (view s) [] f) report (quietBy (f .refused) (record { receiver = f .receiver; slots = s })) report
-  falls-quiet e = rw e (record { refused = refl; reported = refl; receiver = refl; slots = refl; reportAfter = refl })
+module _ (edition : Edition) (f : Still) (s : Slots) (report : List ℕ) where
+  pub falls-quiet : f .outcome ≡ Quiet → Falls edition (f .refused) (stilled damageOctets (view s) [] f) report (quietBy (f .refused) (record { edition = edition; receiver = f .receiver; slots = s })) report
+  falls-quiet e = rw e (record { refused = refl; reported = refl; edition = refl; receiver = refl; slots = refl; reportAfter = refl })
 
-  pub falls-frame : f .outcome ≡ Frame → Falls (f .refused) (stilled damageOctets (view s) [] f) report (quietBy (f .refused) (record { receiver = f .receiver; slots = s })) report
-  falls-frame e = rw e (record { refused = refl; reported = refl; receiver = refl; slots = refl; reportAfter = refl })
+  pub falls-frame : f .outcome ≡ Frame → Falls edition (f .refused) (stilled damageOctets (view s) [] f) report (quietBy (f .refused) (record { edition = edition; receiver = f .receiver; slots = s })) report
+  falls-frame e = rw e (record { refused = refl; reported = refl; edition = refl; receiver = refl; slots = refl; reportAfter = refl })
 
   pub falls-damage : (n : ℕ) {report′ : List ℕ} → f .outcome ≡ Damage n → report′ ≡ damageOctets n
-      → Falls (f .refused) (stilled damageOctets (view s) [] f) report (record { refused = f .refused; reported = true; state = record { receiver = f .receiver; slots = s } }) report′
-  falls-damage n e h = rw e (record { refused = refl; reported = refl; receiver = refl; slots = refl; reportAfter = h })
+      → Falls edition (f .refused) (stilled damageOctets (view s) [] f) report (record { refused = f .refused; reported = true; state = record { edition = edition; receiver = f .receiver; slots = s } }) report′
+  falls-damage n e h = rw e (record { refused = refl; reported = refl; edition = refl; receiver = refl; slots = refl; reportAfter = h })
 
 -- ---- a forget order
 module _ (c : Collector) (s : ℕ) where
   pub forgets-slots : passing (slotsOf c) ≡ false → Forgets c s (record { number = 59; state = c })
-  forgets-slots e = record { number = sym (slots-59 c (forgetNumber keys s (slotsOf c)) e); receiver = refl; slots = rw e }
+  forgets-slots e = record { number = sym (slots-59 c (forgetNumber keys s (slotsOf c)) e); edition = refl; receiver = refl; slots = rw e }
 
   module _ (p : passing (slotsOf c) ≡ true) where
     pub forgets-left : soundOf (c .receiver) ≡ false → Forgets c s (record { number = 59; state = c })
-    forgets-left e = record { number = rw e; receiver = refl; slots = rw (p, e) }
+    forgets-left e = record { number = rw e; edition = refl; receiver = refl; slots = rw (p, e) }
 
     pub forgets-on : soundOf (c .receiver) ≡ true → {f : Freed} → Rebuild.Forgets (c .slots) s f
-        → Forgets c s (record { number = f .number; state = record { receiver = c .receiver; slots = f .slots } })
-    forgets-on e h = record { number = h .number ∙ sym (rw (e, p)); receiver = refl; slots = rw (p, e) (h .slots) }
+        → Forgets c s (record { number = f .number; state = record { edition = c .edition; receiver = c .receiver; slots = f .slots } })
+    forgets-on e h = record { number = h .number ∙ sym (rw (e, p)); edition = refl; receiver = refl; slots = rw (p, e) (h .slots) }

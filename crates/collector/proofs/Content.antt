@@ -16,6 +16,7 @@ use Rattle.npdu.proofs.Outcome.{next-within}
 use Rattle.apdu.specs.Reading.{readApdu}
 use Rattle.apdu.proofs.Exact.{params-within}
 use Rattle.apdu.specs.Fields.{tailEnd, paramsAt}
+use Rattle.apdu.specs.declared.Edition.{Edition}
 use Rattle.apdu.specs.declared.Pdu.{Pdu}
 use Rattle.apdu.specs.declared.Pdu.the-variants.{Request, Unconfirmed, SimpleAck, ComplexAck, SegmentAck, Error, Reject, Abort}
 use Rattle.apdu.specs.declared.Answer.{Answer}
@@ -41,11 +42,11 @@ use Rattle.collector.specs.declared.heard.Parts.{Parts}
 
 -- a frame of type 5, of type 6, of another type
 module _ (w : Heard) (payload : List ℕ) where
-  pub content-5 : w .frame .kind ≡ 5 → contentOf w payload ≡ npduContent payload (readNpdu payload)
+  pub content-5 : w .frame .kind ≡ 5 → contentOf w payload ≡ npduContent (w .edition) payload (readNpdu payload)
   unfolding contentOf
   content-5 e = rw (eq-eqb (w .frame .kind) 5 e)
 
-  pub content-6 : (w .frame .kind ≡ 5 → ⊥) → w .frame .kind ≡ 6 → contentOf w payload ≡ npduContent payload (readNpdu payload)
+  pub content-6 : (w .frame .kind ≡ 5 → ⊥) → w .frame .kind ≡ 6 → contentOf w payload ≡ npduContent (w .edition) payload (readNpdu payload)
   unfolding contentOf
   content-6 ne e = rw (ne-eqb (w .frame .kind) 5 ne, eq-eqb (w .frame .kind) 6 e)
 
@@ -53,28 +54,28 @@ module _ (w : Heard) (payload : List ℕ) where
   unfolding contentOf
   content-other n5 n6 = rw (ne-eqb (w .frame .kind) 5 n5, ne-eqb (w .frame .kind) 6 n6)
 
-module _ (payload : List ℕ) (n : Reading) (e : n ≡ readNpdu payload) where
-  pub npdu-refused : 0 < n .refused → npduContent payload (readNpdu payload) ≡ refuses (n .refused)
+module _ (edition : Edition) (payload : List ℕ) (n : Reading) (e : n ≡ readNpdu payload) where
+  pub npdu-refused : 0 < n .refused → npduContent edition payload (readNpdu payload) ≡ refuses (n .refused)
   unfolding npduContent
   npdu-refused h = rw (← e, lt-ltb 0 (n .refused) h)
 
-  pub npdu-network : n .refused ≤ 0 → n .head .message ≡ true → npduContent payload (readNpdu payload) ≡ network (routeOf (n .head)) (length payload - n .next)
+  pub npdu-network : n .refused ≤ 0 → n .head .message ≡ true → npduContent edition payload (readNpdu payload) ≡ network (routeOf (n .head)) (length payload - n .next)
   unfolding npduContent
   npdu-network h m = rw (← e, le-ltb 0 (n .refused) h, given-true (n .head .message) (network (routeOf (n .head)) (length payload - n .next)) _ m)
 
-  pub npdu-apdu : n .refused ≤ 0 → n .head .message ≡ false → npduContent payload (readNpdu payload) ≡ apduContent (routeOf (n .head)) (drop (n .next) payload) (readApdu (drop (n .next) payload))
+  pub npdu-apdu : n .refused ≤ 0 → n .head .message ≡ false → npduContent edition payload (readNpdu payload) ≡ apduContent (routeOf (n .head)) (drop (n .next) payload) (readApdu edition (drop (n .next) payload))
   unfolding npduContent
   npdu-apdu h m = rw (← e, le-ltb 0 (n .refused) h, given-false (n .head .message) (network (routeOf (n .head)) (length payload - n .next)) _ m)
 
-  pub next-inside : n .next ≤ length payload
-  next-inside = rw e (next-within payload)
+pub next-inside : (payload : List ℕ) (n : Reading) → n ≡ readNpdu payload → n .next ≤ length payload
+next-inside payload n e = rw e (next-within payload)
 
 -- an APDU that was read, x being the answer
-pub apdu-refused : (v : Route) (a : List ℕ) {x : Answer} (n : ℕ) → x ≡ readApdu a → x ≡ Refused n → apduContent v a (readApdu a) ≡ refusesBehind v n
-apdu-refused v a n e q = rw (← e, q)
+pub apdu-refused : (edition : Edition) (v : Route) (a : List ℕ) {x : Answer} (n : ℕ) → x ≡ readApdu edition a → x ≡ Refused n → apduContent v a (readApdu edition a) ≡ refusesBehind v n
+apdu-refused edition v a n e q = rw (← e, q)
 
-pub apdu-good : (v : Route) (a : List ℕ) {x : Answer} (p : Pdu) {m : Parts} → x ≡ readApdu a → x ≡ Good p → m ≡ partsOf p (oct a 0) → apduContent v a (readApdu a) ≡ message v m a
-apdu-good v a p e q k = rw (← e, q, k)
+pub apdu-good : (edition : Edition) (v : Route) (a : List ℕ) {x : Answer} (p : Pdu) {m : Parts} → x ≡ readApdu edition a → x ≡ Good p → m ≡ partsOf p (oct a 0) → apduContent v a (readApdu edition a) ≡ message v m a
+apdu-good edition v a p e q k = rw (← e, q, k)
 
 -- every header has two octets
 pub params-some : (p : Pdu) → 2 ≤ paramsAt p
@@ -89,12 +90,12 @@ params-some (Reject p) = lit≤ tt
 params-some (Abort p) = lit≤ tt
 
 -- and lies within the octets that it was read from
-pub some-octets : (a : List ℕ) {x : Answer} (p : Pdu) → x ≡ readApdu a → x ≡ Good p → 0 < length a
-some-octets a p e q = omega (arith, params-some p, params-within a p (sym e ∙ q))
+pub some-octets : (edition : Edition) (a : List ℕ) {x : Answer} (p : Pdu) → x ≡ readApdu edition a → x ≡ Good p → 0 < length a
+some-octets edition a p e q = omega (arith, params-some p, params-within edition a p (sym e ∙ q))
 
-pub parts-within : (a : List ℕ) {x : Answer} (p : Pdu) {m : Parts} → x ≡ readApdu a → x ≡ Good p → m ≡ partsOf p (oct a 0) → m .params ≤ length a
+pub parts-within : (edition : Edition) (a : List ℕ) {x : Answer} (p : Pdu) {m : Parts} → x ≡ readApdu edition a → x ≡ Good p → m ≡ partsOf p (oct a 0) → m .params ≤ length a
 unfolding partsOf
-parts-within a p e q k = rw k (params-within a p (sym e ∙ q))
+parts-within edition a p e q k = rw k (params-within edition a p (sym e ∙ q))
 
 -- tags by their count
 tags-good : (x : Out) (fine : Report) (n : ℕ) → counted x ≡ Items n → byTags x fine ≡ fine

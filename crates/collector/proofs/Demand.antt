@@ -1,6 +1,6 @@
 -- Demand 3 for the whole box, and what document 01 says of segments, at the page's key.
 use Prim.Native.Nat.{ℕ, _+_, _*_, _≤_, _<_}
-use mathlib.Core.Path.{_≡_, refl, _∙_}
+use mathlib.Core.Path.{_≡_, refl, ap, _∙_}
 use mathlib.Core.Bool.{true, false}
 use mathlib.Core.List.{List, [], _∷_, _++_}
 use mathlib.Core.Logic.{_⊎_}
@@ -31,7 +31,7 @@ use Rattle.collector.specs.Frame.{segmentFrom, bacnet}
 use Rattle.collector.specs.Frame.Content.{message}
 use Rattle.collector.specs.Acting.{acting}
 use Rattle.collector.specs.Calls.{slotCount, box, slotsOf}
-use Rattle.collector.specs.Offering.{Passes, End, Called}
+use Rattle.collector.specs.Offering.{Passes, BoxEnd, End, inEdition, Called}
 use Rattle.collector.specs.declared.Collector.{Collector}
 use Rattle.collector.specs.declared.heard.Heard.{Heard}
 use Rattle.collector.specs.declared.heard.Parts.{Parts}
@@ -40,16 +40,19 @@ use Rattle.collector.proofs.Alike.{offered-to, called-by}
 
 module _ (c : Collector) (area : List ℕ) (P : Passes c) (z : length area ≡ 65536) where
   -- "one run of trunk octets with silences and forget orders at fixed places, from any state that passes 59": "Then reports, final state and
-  -- message area are those that a reading of the whole recording by position gives."
-  pub demand3 : {run : Run} {e : End} → Called (length (heldOf (c .receiver))) c area run e → e ≡ reading (rules keys bacnet) (c .receiver) (slotsOf c) area run
-  demand3 o = whole keys key-laws bacnet slotCount (λ n. refl) (λ o g e. refl) (P .receiver) (P .slots) (eq-eqb (length area) 65536 z) (offered-to o)
+  -- message area are those that a reading of the whole recording by position gives." The edition is the start state's, and its rules give the rest.
+  pub demand3 : {run : Run} {e : End} → Called (length (heldOf (c .receiver))) c area run e
+      → e ≡ inEdition (c .edition) (reading (rules keys (bacnet (c .edition))) (c .receiver) (slotsOf c) area run)
+  demand3 o =
+      let w = offered-to o in
+      w .2 ∙ ap (inEdition (c .edition)) (whole keys key-laws (bacnet (c .edition)) slotCount (λ n. refl) (λ o g e. refl) (P .receiver) (P .slots) (eq-eqb (length area) 65536 z) (w .1))
 
   -- every run can be offered to the box, and so by the calls
-  pub boxed-way : (run : Run) → (e : End) × Offered box (length (heldOf (c .receiver))) (c .receiver) (slotsOf c) area run e
-  boxed-way run = offerable keys key-laws bacnet slotCount (λ n. refl) (λ o g e. refl) run (c .receiver) (slotsOf c) area (P .receiver) (P .slots) (eq-eqb (length area) 65536 z)
+  pub boxed-way : (run : Run) → (x : BoxEnd) × Offered (box (c .edition)) (length (heldOf (c .receiver))) (c .receiver) (slotsOf c) area run x
+  boxed-way run = offerable keys key-laws (bacnet (c .edition)) slotCount (λ n. refl) (λ o g e. refl) run (c .receiver) (slotsOf c) area (P .receiver) (P .slots) (eq-eqb (length area) 65536 z)
 
   pub some-way : (run : Run) → (e : End) × Called (length (heldOf (c .receiver))) c area run e
-  some-way run = let w = boxed-way run in (w .0, called-by (w .1))
+  some-way run = let w = boxed-way run in (inEdition (c .edition) (w .0), called-by (w .1))
 
   -- "Each message begun and completed in the run is its key's accepted segments since its latest segment 0, joined in number order": t is the
   -- reading of the whole trunk, front the run up to the place where the last segment ends.
@@ -57,11 +60,11 @@ module _ (c : Collector) (area : List ℕ) (P : Passes c) (z : length area ≡ 6
       → (let t = readFrom (c .receiver) (wire all) in
       let p = length (heldOf (c .receiver)) in
       let run = front ++ (trunk e ∷ []) in
-      ended (p + length (wire front)) t ≡ some o → bacnet .segmentOf o ≡ some g → (k : Key) (i n : ℕ)
-      → Completes (history keys bacnet t p (slotsOf c) area run) k i n → begun keys k (history keys bacnet t p (slotsOf c) area run) ≡ true
-      → Rebuilt keys k (history keys bacnet t p (slotsOf c) area run) (walk (rules keys bacnet) t p (slotsOf c) area run .area) i n)
+      ended (p + length (wire front)) t ≡ some o → bacnet (c .edition) .segmentOf o ≡ some g → (k : Key) (i n : ℕ)
+      → Completes (history keys (bacnet (c .edition)) t p (slotsOf c) area run) k i n → begun keys k (history keys (bacnet (c .edition)) t p (slotsOf c) area run) ≡ true
+      → Rebuilt keys k (history keys (bacnet (c .edition)) t p (slotsOf c) area run) (walk (rules keys (bacnet (c .edition))) t p (slotsOf c) area run .area) i n)
   messages all front e o g here is k i n =
-      Deeds.message keys key-laws bacnet (readFrom (c .receiver) (wire all)) (length (heldOf (c .receiver))) (slotsOf c) area (fair (c .slots) area (P .slots) z) front e o g here is k i n
+      Deeds.message keys key-laws (bacnet (c .edition)) (readFrom (c .receiver) (wire all)) (length (heldOf (c .receiver))) (slotsOf c) area (fair (c .slots) area (P .slots) z) front e o g here is k i n
 
   -- a repeated or late segment changes nothing: 52
   pub late : (w : Heard) (v : Route) (m : Parts) (a : List ℕ) (i : ℕ) → m .segment .seg ≡ true → slotOf keys (segmentFrom w m a .key) (slotsOf c) ≡ some i

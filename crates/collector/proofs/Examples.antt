@@ -6,6 +6,7 @@ use Rattle.octets.specs.Splice.{splice}
 use Rattle.octets.specs.Numbers.{digits}
 use Rattle.sums.specs.Sums.{headerMix}
 use Rattle.runs.specs.Run.{octs}
+use Rattle.apdu.specs.declared.Edition.{Edition}
 use Rattle.frames.specs.Step.{lengthOf}
 use Rattle.trunk.specs.Reading.{readingOf, readFrom}
 use Rattle.trunk.specs.Demand.{reading}
@@ -15,8 +16,8 @@ use Rattle.reports.specs.Layout.{reportOctets}
 use Rattle.collector.specs.Frame.{contentOf, bacnet}
 use Rattle.collector.specs.Calls.{freshCollector, slotsOf}
 
--- "`55 FF 01 02 01 00 00 F5` gives `01 00 01 02 01` and eleven zeros", at its last octet
-pub whole-case : (area : List ℕ) → reading (rules keys bacnet) (freshCollector .receiver) (slotsOf freshCollector) area (octs (0x55 ∷ 0xFF ∷ 0x01 ∷ 0x02 ∷ 0x01 ∷ 0x00 ∷ 0x00 ∷ 0xF5 ∷ [])) .reports
+-- "`55 FF 01 02 01 00 00 F5` gives `01 00 01 02 01` and eleven zeros", at its last octet, in either edition
+pub whole-case : (edition : Edition) (area : List ℕ) → reading (rules keys (bacnet edition)) (freshCollector edition .receiver) (slotsOf (freshCollector edition)) area (octs (0x55 ∷ 0xFF ∷ 0x01 ∷ 0x02 ∷ 0x01 ∷ 0x00 ∷ 0x00 ∷ 0xF5 ∷ [])) .reports
     ≡ (7, 0x01 ∷ 0x00 ∷ 0x01 ∷ 0x02 ∷ 0x01 ∷ 0 ∷ 0 ∷ 0 ∷ 0 ∷ 0 ∷ 0 ∷ 0 ∷ 0 ∷ 0 ∷ 0 ∷ 0 ∷ []) ∷ []
 unfolding reading readFrom readingOf headerMix splice lengthOf contentOf reportOctets digits
-whole-case area = refl
+whole-case edition area = refl

@@ -1,4 +1,4 @@
--- 59 passes a fresh collector, and every state that a run reaches.
+-- 59 passes a fresh collector of either edition, and every state that a run reaches.
 use Prim.Native.Nat.{ℕ, _+_}
 use mathlib.Core.Path.{_≡_, refl, sym, subst}
 use mathlib.Core.Bool.{true}
@@ -11,6 +11,7 @@ use Rattle.runs.specs.Run.Event.{octet, silence}
 use Rattle.runs.specs.Offered.{answer, caught, boxCalls, Made}
 use Rattle.runs.specs.Offered.Made.{feed, still, free}
 use Rattle.runs.proofs.Carrying.{stays}
+use Rattle.apdu.specs.declared.Edition.{Edition}
 use Rattle.frames.specs.declared.Receiver.{Receiver}
 use Rattle.frames.specs.declared.Fed.{Fed}
 use Rattle.frames.specs.Step.{soundOf, stepOf, reportsOf, feedFrom, feedOf, silenceOf, stillOf}
@@ -29,11 +30,11 @@ use Rattle.collector.specs.Offering.{Passes, End, Called}
 use Rattle.collector.specs.declared.Collector.{Collector}
 use Rattle.collector.proofs.Alike.{Boxed, offered-to}
 
-pub fresh : Passes freshCollector
-fresh = record { receiver = record { left = refl; head = length-replicate {A = ℕ} 5 0; store = length-replicate {A = ℕ} 501 0 }; slots = fresh-passes }
+pub fresh : (edition : Edition) → Passes (freshCollector edition)
+fresh edition = record { receiver = record { left = refl; head = length-replicate {A = ℕ} 5 0; store = length-replicate {A = ℕ} 501 0 }; slots = fresh-passes }
 
-pub keeps : Keeps (rules keys bacnet) damageOctets passing sized
-keeps = Recordings.keeps keys key-laws bacnet slotCount (λ n. refl) (λ o g e. refl)
+pub keeps : (edition : Edition) → Keeps (rules keys (bacnet edition)) damageOctets passing sized
+keeps edition = Recordings.keeps keys key-laws (bacnet edition) slotCount (λ n. refl) (λ o g e. refl)
 
 -- the receiver
 from-sound : (xs : List ℕ) (n : ℕ) (r : Receiver) → Sound r → Sound (feedFrom n r xs .receiver)
@@ -60,33 +61,36 @@ pub record Fair (m : Receiver) (s : List (Messages.Slot Key)) (a : List ℕ) : T
 abbrev pub FairAnswer : Answered → Type 0
 FairAnswer d = Fair (d .state) (d .slots) (d .area)
 
-module _ {m : Receiver} {s : List (Messages.Slot Key)} {a : List ℕ} (F : Fair m s a) where
-  caught-fair : (x : Option Out) (n : ℕ) → FairAnswer (caught (rules keys bacnet) x n m s a (answer n none m s a))
+module _ (edition : Edition) {m : Receiver} {s : List (Messages.Slot Key)} {a : List ℕ} (F : Fair m s a) where
+  caught-fair : (x : Option Out) (n : ℕ) → FairAnswer (caught (rules keys (bacnet edition)) x n m s a (answer n none m s a))
   caught-fair none n = F
   caught-fair (some o) n =
-      record { receiver = F .receiver; slots = keeps .slots o s a (F .slots) (F .area); area = keeps .area o s a (F .slots) (F .area) }
+      record { receiver = F .receiver; slots = keeps edition .slots o s a (F .slots) (F .area); area = keeps edition .area o s a (F .slots) (F .area) }
 
-  pub free-fair : (n : ℕ) → Fair m (box .free n m s) a
-  free-fair n = rw (F .slots, F .receiver .left) (record { receiver = F .receiver; slots = keeps .free n s (F .slots); area = F .area })
+  pub free-fair : (n : ℕ) → Fair m (box edition .free n m s) a
+  free-fair n = rw (F .slots, F .receiver .left) (record { receiver = F .receiver; slots = keeps edition .free n s (F .slots); area = F .area })
 
-  pub still-fair : FairAnswer (box .still m s a)
+  pub still-fair : FairAnswer (box edition .still m s a)
   still-fair = rw (F .slots) (record { receiver = silence-sound m (F .receiver); slots = F .slots; area = F .area })
 
-pub feed-fair : {m : Receiver} {s : List (Messages.Slot Key)} {a : List ℕ} → Fair m s a → (xs : List ℕ) → FairAnswer (box .feed m s a xs)
-feed-fair {m} {s} {a} F xs =
+pub feed-fair : (edition : Edition) {m : Receiver} {s : List (Messages.Slot Key)} {a : List ℕ} → Fair m s a → (xs : List ℕ) → FairAnswer (box edition .feed m s a xs)
+feed-fair edition {m} {s} {a} F xs =
     let f = feedOf m xs in
     let G : Fair (f .receiver) s a = record { receiver = feed-sound m xs (F .receiver); slots = F .slots; area = F .area } in
-    rw (F .area, F .slots) (caught-fair G (outOf (f .outcome) (f .receiver)) (f .eaten))
+    rw (F .area, F .slots) (caught-fair edition G (outOf (f .outcome) (f .receiver)) (f .eaten))
 
 abbrev pub FairAt : Boxed → Type 0
 FairAt x = Fair (x .0) (x .1) (x .2)
 
-made-fair : {x y : Boxed} {lent : Run} {n : ℕ} {said : Option (List ℕ)} → FairAt x → Made (boxCalls box) x lent n said y → FairAt y
-made-fair F (feed piece q) = subst FairAnswer (sym q) (feed-fair F piece)
-made-fair F (still q) = subst FairAnswer (sym q) (still-fair F)
-made-fair F (free i q) = subst FairAt (sym q) (free-fair F i)
+made-fair : (edition : Edition) {x y : Boxed} {lent : Run} {n : ℕ} {said : Option (List ℕ)} → FairAt x → Made (boxCalls (box edition)) x lent n said y → FairAt y
+made-fair edition F (feed piece q) = subst FairAnswer (sym q) (feed-fair edition F piece)
+made-fair edition F (still q) = subst FairAnswer (sym q) (still-fair edition F)
+made-fair edition F (free i q) = subst FairAt (sym q) (free-fair edition F i)
 
 -- after any run, however its calls are made
-pub reached : {p : ℕ} {c : Collector} {area : List ℕ} {run : Run} {e : End} → Passes c → sized area ≡ true → Called p c area run e → Fair (e .state) (e .slots) (e .area)
-reached P z o =
-    stays (Made (boxCalls box)) FairAt (λ x y lent n said F c. made-fair F c) (record { receiver = P .receiver; slots = P .slots; area = z }) (offered-to o)
+pub reached : {p : ℕ} {c : Collector} {area : List ℕ} {run : Run} {e : End} → Passes c → sized area ≡ true → Called p c area run e → Fair (e .state .1) (e .slots) (e .area)
+reached {c = c} P z o =
+    let w = offered-to o in
+    let F : FairAt (w .0 .state, w .0 .slots, w .0 .area) =
+    stays (Made (boxCalls (box (c .edition)))) FairAt (λ x y lent n said F h. made-fair (c .edition) F h) (record { receiver = P .receiver; slots = P .slots; area = z }) (w .1) in
+    subst (λ (e : End). Fair (e .state .1) (e .slots) (e .area)) (sym (w .2)) F

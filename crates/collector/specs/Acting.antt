@@ -6,6 +6,8 @@ use mathlib.Core.List.{List}
 use lib.Dec.{eqb}
 use lib.ListN.{length}
 use Rattle.octets.specs.Choice.{pick}
+use Rattle.octets.specs.Reading.{oct}
+use Rattle.apdu.specs.declared.Edition.{Edition}
 use Rattle.messages.specs.Slots as Messages
 use Rattle.messages.specs.Slots.{room}
 use Rattle.messages.specs.Sound.{passes}
@@ -17,7 +19,7 @@ use Rattle.rebuild.specs.declared.Step.the-variants.{Refused, Held, Complete}
 use Rattle.recordings.specs.Frames.{actOn}
 use Rattle.reports.specs.Layout.{reportSize, reportOctets}
 use Rattle.collector.specs.Heard.{heardOf, Route}
-use Rattle.collector.specs.Frame.{Content, segmentIn, plainReport, contents}
+use Rattle.collector.specs.Frame.{Content, segmentIn, plainReport, contents, contentOf}
 use Rattle.collector.specs.declared.heard.Heard.{Heard}
 use Rattle.collector.specs.declared.heard.Parts.{Parts}
 
@@ -41,17 +43,17 @@ ActedBehind w x t area u report later = (v : Route) → Acted (acting w (x v) (v
 abbrev pub SaidBehind : Heard → (Route → Content) → List ℕ → Type 0
 SaidBehind w x report = (v : Route) → report ≡ reportOctets (plainReport w (x v))
 
--- the same of a frame that changes neither slots nor area, whatever they are
-abbrev pub ActedAlone : Heard → Content → List ℕ → Type 0
-ActedAlone w x report = (t : Slots) (area : List ℕ) → Acted (acting w x (view t) area) t report area
+-- the same of a frame that changes neither slots nor area, whatever they and the edition are
+abbrev pub ActedAlone : List ℕ → List ℕ → List ℕ → Type 0
+ActedAlone head payload report = (e : Edition) (t : Slots) (area : List ℕ) → (let w = heardOf e head in Acted (acting w (contentOf w payload) (view t) area) t report area)
 
 -- a frame of type 5 or 6 carries a network header
-abbrev pub carrying : Heard → Bool
-carrying w = pick (eqb (w .frame .kind) 5) true (eqb (w .frame .kind) 6)
+abbrev pub carrying : ℕ → Bool
+carrying kind = pick (eqb kind 5) true (eqb kind 6)
 
 -- a good frame's head and data, and whether it carries one
 pub record Carries (b : Bool) (head payload : List ℕ) : Type 0 where
-  pub carries : carrying (heardOf head) ≡ b
+  pub carries : carrying (oct head 0) ≡ b
   pub short : length payload ≤ 501
 
 -- slots that have not moved are those that were there

@@ -8,6 +8,7 @@ use lib.Dec.{eqb}
 use lib.ListN.{length}
 use Rattle.octets.specs.Choice.{pick, both}
 use Rattle.runs.specs.Offered.{Answer, Box}
+use Rattle.apdu.specs.declared.Edition.{Edition}
 use Rattle.frames.specs.declared.Receiver.{Receiver}
 use Rattle.frames.specs.Step.{soundOf, freshOf}
 use Rattle.trunk.specs.Demand.{boxOf, unmoved}
@@ -34,9 +35,9 @@ passing s = passes keys slotCount s
 abbrev pub sized : List ℕ → Bool
 sized a = sizedFor slotCount a
 
--- the box that demand 3 speaks of: a refused call eats nothing and changes nothing
-abbrev pub box : Box Receiver (List (Messages.Slot Key)) (List ℕ) (List ℕ)
-box = boxOf (rules keys bacnet) damageOctets passing sized
+-- the box that demand 3 speaks of, by the rules of an edition: a refused call eats nothing and changes nothing
+abbrev pub box : Edition → Box Receiver (List (Messages.Slot Key)) (List ℕ) (List ℕ)
+box e = boxOf (rules keys (bacnet e)) damageOctets passing sized
 
 -- a state that 59 passes
 abbrev pub sound : Receiver → List (Messages.Slot Key) → Bool
@@ -51,9 +52,9 @@ abbrev pub saidSo : Option (List ℕ) → Bool
 saidSo none = false
 saidSo (some report) = true
 
--- a fresh collector: the fresh receiver, four free slots
-abbrev pub freshCollector : Collector
-freshCollector = record { receiver = freshOf; slots = fresh }
+-- a fresh collector of an edition: the fresh receiver, four free slots
+abbrev pub freshCollector : Edition → Collector
+freshCollector e = record { edition = e; receiver = freshOf; slots = fresh }
 
 -- a state as the rules see it
 abbrev pub slotsOf : Collector → List (Messages.Slot Key)
@@ -73,20 +74,21 @@ feedRefusal c report area =
 -- a report area of another size is refused; all else is the box
 unfoldable pub feeding : Collector → List ℕ → List ℕ → List ℕ → Answered
 feeding c report area piece =
-    pick (eqb (length report) reportSize) (box .feed (c .receiver) (slotsOf c) area piece) (unmoved (c .receiver) (slotsOf c) area)
+    pick (eqb (length report) reportSize) (box (c .edition) .feed (c .receiver) (slotsOf c) area piece) (unmoved (c .receiver) (slotsOf c) area)
 
--- the answer r and what is left in both areas: the refusal n, and d
-pub record Tells (n : ℕ) (d : Answered) (report : List ℕ) (r : Fed) (report′ area′ : List ℕ) : Type 0 where
+-- the answer r and what is left in both areas: the refusal n, and d; the edition is the one that was given
+pub record Tells (e : Edition) (n : ℕ) (d : Answered) (report : List ℕ) (r : Fed) (report′ area′ : List ℕ) : Type 0 where
   pub refused : r .refused ≡ n
   pub eaten : r .eaten ≡ d .eaten
   pub reported : r .reported ≡ saidSo (d .said)
+  pub edition : r .state .edition ≡ e
   pub receiver : r .state .receiver ≡ d .state
   pub slots : slotsOf (r .state) ≡ d .slots
   pub reportAfter : report′ ≡ written (d .said) report
   pub areaAfter : area′ ≡ d .area
 
 abbrev pub Feeds : Collector → List ℕ → List ℕ → List ℕ → Fed → List ℕ → List ℕ → Type 0
-Feeds c report area piece r report′ area′ = Tells (feedRefusal c report area) (feeding c report area piece) report r report′ area′
+Feeds c report area piece r report′ area′ = Tells (c .edition) (feedRefusal c report area) (feeding c report area piece) report r report′ area′
 
 -- ---- a silence lends the report area alone
 unfoldable pub silenceRefusal : Collector → List ℕ → ℕ
@@ -95,20 +97,22 @@ silenceRefusal c report = pick (eqb (length report) reportSize) (pick (sound (c 
 -- the area plays no part in it
 unfoldable pub stilling : Collector → List ℕ → List ℕ → Answered
 stilling c report area =
-    pick (eqb (length report) reportSize) (box .still (c .receiver) (slotsOf c) area) (unmoved (c .receiver) (slotsOf c) area)
+    pick (eqb (length report) reportSize) (box (c .edition) .still (c .receiver) (slotsOf c) area) (unmoved (c .receiver) (slotsOf c) area)
 
-pub record Falls (n : ℕ) (d : Answered) (report : List ℕ) (r : Fell) (report′ : List ℕ) : Type 0 where
+pub record Falls (e : Edition) (n : ℕ) (d : Answered) (report : List ℕ) (r : Fell) (report′ : List ℕ) : Type 0 where
   pub refused : r .refused ≡ n
   pub reported : r .reported ≡ saidSo (d .said)
+  pub edition : r .state .edition ≡ e
   pub receiver : r .state .receiver ≡ d .state
   pub slots : slotsOf (r .state) ≡ d .slots
   pub reportAfter : report′ ≡ written (d .said) report
 
 abbrev pub Stills : Collector → List ℕ → Fell → List ℕ → Type 0
-Stills c report r report′ = Falls (silenceRefusal c report) (stilling c report []) report r report′
+Stills c report r report′ = Falls (c .edition) (silenceRefusal c report) (stilling c report []) report r report′
 
 -- ---- "Forgetting frees a slot, answers 0, 59 or 56 and writes no report": 59, then 56
 pub record Forgets (c : Collector) (s : ℕ) (r : Forgot) : Type 0 where
   pub number : r .number ≡ pick (sound (c .receiver) (slotsOf c)) (forgetNumber keys s (slotsOf c)) 59
+  pub edition : r .state .edition ≡ c .edition
   pub receiver : r .state .receiver ≡ c .receiver
-  pub slots : slotsOf (r .state) ≡ box .free s (c .receiver) (slotsOf c)
+  pub slots : slotsOf (r .state) ≡ box (c .edition) .free s (c .receiver) (slotsOf c)

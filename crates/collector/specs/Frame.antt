@@ -9,6 +9,7 @@ use Rattle.octets.specs.Reading.{oct, refuse}
 use Rattle.npdu.specs.Reading.{readNpdu}
 use Rattle.npdu.specs.declared.Reading.{Reading}
 use Rattle.apdu.specs.Reading.{readApdu}
+use Rattle.apdu.specs.declared.Edition.{Edition}
 use Rattle.apdu.specs.declared.Answer.{Answer}
 use Rattle.apdu.specs.declared.Answer.the-variants.{Good, Refused}
 use Rattle.items.specs.Reading.{Out, itemsOf}
@@ -42,17 +43,17 @@ abbrev pub apduContent : Route → List ℕ → Answer → Content
 apduContent v a (Good p) = message v (partsOf p (oct a 0)) a
 apduContent v a (Refused n) = refusesBehind v n
 
--- what follows the network header
-unfoldable pub npduContent : List ℕ → Reading → Content
-npduContent payload n =
+-- what follows the network header, an APDU read by the edition
+unfoldable pub npduContent : Edition → List ℕ → Reading → Content
+npduContent e payload n =
     refuse (ltb 0 (n .refused)) (refuses (n .refused))
     (given (n .head .message) (network (routeOf (n .head)) (length payload - n .next))
-    (apduContent (routeOf (n .head)) (drop (n .next) payload) (readApdu (drop (n .next) payload))))
+    (apduContent (routeOf (n .head)) (drop (n .next) payload) (readApdu e (drop (n .next) payload))))
 
 unfoldable pub contentOf : Heard → List ℕ → Content
 contentOf w payload =
-    pick (eqb (w .frame .kind) 5) (npduContent payload (readNpdu payload))
-    (pick (eqb (w .frame .kind) 6) (npduContent payload (readNpdu payload)) (other (length payload)))
+    pick (eqb (w .frame .kind) 5) (npduContent (w .edition) payload (readNpdu payload))
+    (pick (eqb (w .frame .kind) 6) (npduContent (w .edition) payload (readNpdu payload)) (other (length payload)))
 
 -- the parameters of an APDU
 abbrev pub paramsOf : Parts → List ℕ → List ℕ
@@ -100,24 +101,24 @@ answeredReport w (refuses n) x area = refusal (w .frame) 0
 answeredReport w (network v n) x area = refusal (w .frame) 0
 answeredReport w (refusesBehind v n) x area = refusal (w .frame) 0
 
--- ---- all of it as the rules that demand 3 is stated over: of a content, and of what ends on the trunk
+-- ---- all of it as the rules that demand 3 is stated over: of a content, and of what ends on the trunk in an edition
 abbrev pub contents : Heard → Frames Content Key (List ℕ)
 contents w = record { segmentOf = segmentIn w; plain = λ x. reportOctets (plainReport w x); answered = λ x y area. reportOctets (answeredReport w x y area) }
 
-abbrev pub segmentAt : Trunk.Out → Option (Messages.Segment Key)
-segmentAt (whole head payload) = let w = heardOf head in segmentIn w (contentOf w payload)
-segmentAt (damage n) = none
+abbrev pub segmentAt : Edition → Trunk.Out → Option (Messages.Segment Key)
+segmentAt e (whole head payload) = let w = heardOf e head in segmentIn w (contentOf w payload)
+segmentAt e (damage n) = none
 
-abbrev pub plainAt : Trunk.Out → List ℕ
-plainAt (whole head payload) = let w = heardOf head in reportOctets (plainReport w (contentOf w payload))
-plainAt (damage n) = reportOctets (damaged n)
+abbrev pub plainAt : Edition → Trunk.Out → List ℕ
+plainAt e (whole head payload) = let w = heardOf e head in reportOctets (plainReport w (contentOf w payload))
+plainAt e (damage n) = reportOctets (damaged n)
 
-abbrev pub answeredAt : Trunk.Out → Rows.Answer → List ℕ → List ℕ
-answeredAt (whole head payload) x area = let w = heardOf head in reportOctets (answeredReport w (contentOf w payload) x area)
-answeredAt (damage n) x area = reportOctets (damaged n)
+abbrev pub answeredAt : Edition → Trunk.Out → Rows.Answer → List ℕ → List ℕ
+answeredAt e (whole head payload) x area = let w = heardOf e head in reportOctets (answeredReport w (contentOf w payload) x area)
+answeredAt e (damage n) x area = reportOctets (damaged n)
 
-abbrev pub bacnet : Frames Trunk.Out Key (List ℕ)
-bacnet = record { segmentOf = segmentAt; plain = plainAt; answered = answeredAt }
+abbrev pub bacnet : Edition → Frames Trunk.Out Key (List ℕ)
+bacnet e = record { segmentOf = segmentAt e; plain = plainAt e; answered = answeredAt e }
 
 -- the report of damage
 abbrev pub damageOctets : ℕ → List ℕ

@@ -5,8 +5,9 @@ use mathlib.Core.Bool.{Bool, true, false}
 use mathlib.Core.List.{List}
 use mathlib.Core.Option.{Option, none, some}
 use lib.ListN.{length}
-use Rattle.runs.specs.Run.{Run, Ends}
+use Rattle.runs.specs.Run.{Run, Ends, ends}
 use Rattle.runs.specs.Offered.{Calls, Made, Offer}
+use Rattle.apdu.specs.declared.Edition.{Edition}
 use Rattle.frames.specs.declared.Receiver.{Receiver}
 use Rattle.trunk.specs.Demand.{Sound}
 use Rattle.messages.specs.Slots as Messages
@@ -23,9 +24,16 @@ pub record Passes (c : Collector) : Type 0 where
   pub receiver : Sound (c .receiver)
   pub slots : passing (slotsOf c) ≡ true
 
--- the reports with their places, and the receiver, the slots and the message area at the end
+-- the reports with their places, and the receiver, the slots and the message area at the end: what the rules of one edition give
+abbrev pub BoxEnd : Type 0
+BoxEnd = Ends Receiver (List (Messages.Slot Key)) (List ℕ) (List ℕ)
+
+-- the same with the edition beside the receiver: the last state is edition, receiver and slots
 abbrev pub End : Type 0
-End = Ends Receiver (List (Messages.Slot Key)) (List ℕ) (List ℕ)
+End = Ends (Edition × Receiver) (List (Messages.Slot Key)) (List ℕ) (List ℕ)
+
+abbrev pub inEdition : Edition → BoxEnd → End
+inEdition e x = ends (x .reports) (e, x .state) (x .slots) (x .area)
 
 -- what stands in the report area is a report where the call says so
 abbrev pub told : Bool → List ℕ → Option (List ℕ)
@@ -71,4 +79,4 @@ calls = record { Feeds = Feeding; Stills = Stilling; Forgets = Forgetting }
 -- "Cut the octets anywhere, offer the rest again after each report": from a state and a message area, with a run left to offer whose trunk goes on
 -- at place p; the last state as the rules see it
 abbrev pub Called : ℕ → Collector → List ℕ → Run → End → Type 0
-Called p c area run e = (d : Collector) × Offer (Made calls) p (c, area) run (e .reports) (d, e .area) × (d .receiver ≡ e .state) × (slotsOf d ≡ e .slots)
+Called p c area run e = (d : Collector) × Offer (Made calls) p (c, area) run (e .reports) (d, e .area) × (d .edition ≡ e .state .0) × (d .receiver ≡ e .state .1) × (slotsOf d ≡ e .slots)

@@ -3,6 +3,7 @@ use crate::heard;
 use crate::heard::Heard;
 use crate::heard::Parts;
 use apdu::Answer;
+use apdu::Edition;
 use items::Tally;
 use rebuild::Key;
 use rebuild::Segment;
@@ -14,6 +15,7 @@ ghost use mathlib.Core.Path.{_≡_};
 ghost use mathlib.Core.Bool.{true, false};
 ghost use Prim.Native.Nat.{_≤_};
 ghost use lib.ListN.{length};
+ghost use Rattle.octets.specs.Reading.{oct};
 ghost use Rattle.npdu.specs.Reading.{readNpdu};
 ghost use Rattle.apdu.specs.Reading.{readApdu};
 ghost use Rattle.items.specs.Reading.{itemsOf};
@@ -127,9 +129,10 @@ fn put_plain(w: Heard, m: Parts, a: &[u8], out: &mut [u8])
 // An APDU, by its octets, whatever its addresses.
 fn act_apdu(w: Heard, a: &[u8], slots: Slots, out: &mut [u8], area: &mut [u8]) -> Slots
     requires { ⌜ Lent (now out) slots (now area) × (length (now a) ≤ 501) ⌝ }
-    ensures { λ r. ⌜ ActedBehind w (λ v. apduContent v (now (a .entry)) (readApdu (now (a .entry)))) slots (now (area .entry)) r (now (out .exit)) (now (area .exit)) ⌝ }
+    ensures { λ r. ⌜ ActedBehind w (λ v. apduContent v (now (a .entry)) (readApdu (w .edition) (now (a .entry)))) slots (now (area .entry)) r (now (out .exit)) (now (area .exit)) ⌝ }
 {
-    match apdu::read(a) {
+    let edition = w.edition;
+    match apdu::read(edition, a) {
         Answer::Refused(n) => {
             put_refusal(out, w, n);
             slots
@@ -150,7 +153,7 @@ fn act_apdu(w: Heard, a: &[u8], slots: Slots, out: &mut [u8], area: &mut [u8]) -
 // A frame of type 5 or 6: the network header, and what follows it.
 fn act_npdu(w: Heard, payload: &[u8], slots: Slots, out: &mut [u8], area: &mut [u8]) -> Slots
     requires { ⌜ Lent (now out) slots (now area) × (length (now payload) ≤ 501) ⌝ }
-    ensures { λ r. ⌜ Acted (acting w (npduContent (now (payload .entry)) (readNpdu (now (payload .entry)))) (view slots) (now (area .entry))) r (now (out .exit)) (now (area .exit)) ⌝ }
+    ensures { λ r. ⌜ Acted (acting w (npduContent (w .edition) (now (payload .entry)) (readNpdu (now (payload .entry)))) (view slots) (now (area .entry))) r (now (out .exit)) (now (area .exit)) ⌝ }
 {
     let n = npdu::read(payload);
     let refused = n.refused;
@@ -174,7 +177,7 @@ fn act_npdu(w: Heard, payload: &[u8], slots: Slots, out: &mut [u8], area: &mut [
 
 // Whether a good frame carries a network header. Slots move by such a frame alone.
 pub fn carries(head: [u8; 5]) -> bool
-    ensures { λ r. ⌜ r ≡ carrying (heardOf head) ⌝ }
+    ensures { λ r. ⌜ r ≡ carrying (oct head 0) ⌝ }
 {
     if head[0] == 5 {
         return true;
@@ -182,24 +185,31 @@ pub fn carries(head: [u8; 5]) -> bool
     head[0] == 6
 }
 
-// A good frame of type 5 or 6: its head and its data.
-pub fn act(head: [u8; 5], payload: &[u8], slots: Slots, out: &mut [u8], area: &mut [u8]) -> Slots
+// A good frame of type 5 or 6: its head and its data, read by an edition.
+pub fn act(
+    edition: Edition,
+    head: [u8; 5],
+    payload: &[u8],
+    slots: Slots,
+    out: &mut [u8],
+    area: &mut [u8],
+) -> Slots
     requires { ⌜ Carries true head (now payload) × Lent (now out) slots (now area) ⌝ }
-    ensures { λ r. ⌜ Acted (acting (heardOf head) (contentOf (heardOf head) (now (payload .entry))) (view slots) (now (area .entry))) r (now (out .exit)) (now (area .exit)) ⌝ }
+    ensures { λ r. ⌜ Acted (acting (heardOf edition head) (contentOf (heardOf edition head) (now (payload .entry))) (view slots) (now (area .entry))) r (now (out .exit)) (now (area .exit)) ⌝ }
 {
     let frame = Frame {
         kind: head[0],
         destination: head[1],
         source: head[2],
     };
-    let w = Heard { frame };
+    let w = Heard { frame, edition };
     act_npdu(w, payload, slots, out, area)
 }
 
-// A good frame of another type, whatever slots and message area are.
+// A good frame of another type, whatever edition, slots and message area are.
 pub fn put_other(head: [u8; 5], payload: &[u8], out: &mut [u8])
     requires { ⌜ Carries false head (now payload) × (length (now out) ≡ reportSize) ⌝ }
-    ensures { λ _. ⌜ ActedAlone (heardOf head) (contentOf (heardOf head) (now (payload .entry))) (now (out .exit)) ⌝ }
+    ensures { λ _. ⌜ ActedAlone head (now (payload .entry)) (now (out .exit)) ⌝ }
 {
     let frame = Frame {
         kind: head[0],

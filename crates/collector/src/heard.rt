@@ -1,4 +1,5 @@
 // What a good frame hands down, and an APDU taken apart once.
+use apdu::Edition;
 use apdu::Pdu;
 use apdu::Segment;
 use apdu::fields;
@@ -7,9 +8,10 @@ use reports::Frame;
 ghost use mathlib.Core.Path.{_≡_};
 ghost use Rattle.collector.specs.Heard.{partsOf};
 
-// What holds of the whole frame: its type, destination and source.
+// What holds of the whole frame: its type, destination and source, and the edition by which it is read.
 pub struct Heard {
     pub frame: Frame,
+    pub edition: Edition,
 }
 
 // An APDU as it is used here: its type, what a report says of it, its segment part, and where its parameters begin.

@@ -1,5 +1,6 @@
-// The same calls over a lent frame store: link and slots go in and come back, the store stays where it is.
+// The same calls over a lent frame store: link and slots go in and come back, the store stays where it is, the edition with whoever lends it.
 use crate::frame;
+use apdu::Edition;
 use frames::Link;
 use frames::Outcome;
 use rebuild::Slots;
@@ -46,6 +47,7 @@ fn unfed(link: Link, slots: Slots, number: u8) -> Ate
 
 // Eats octets through the first that causes a report, else all.
 pub fn feed(
+    edition: Edition,
     link: Link,
     slots: Slots,
     store: &mut [u8],
@@ -54,7 +56,7 @@ pub fn feed(
     area: &mut [u8],
 ) -> Ate
     requires { ⌜ length (now store) ≡ 501 ⌝ }
-    ensures { λ r. ⌜ Eats link slots (now (store .entry)) (now (report .entry)) (now (area .entry)) (now (piece .entry)) r (now (store .exit)) (now (report .exit)) (now (area .exit)) ⌝ }
+    ensures { λ r. ⌜ Eats edition link slots (now (store .entry)) (now (report .entry)) (now (area .entry)) (now (piece .entry)) r (now (store .exit)) (now (report .exit)) (now (area .exit)) ⌝ }
 {
     if report.len() != reports::SIZE {
         return unfed(link, slots, 60);
@@ -95,7 +97,7 @@ pub fn feed(
             let head = link.head;
             let n = frames::length_of(head) as usize;
             if frame::carries(head) {
-                let slots = frame::act(head, &store[..n], slots, report, area);
+                let slots = frame::act(edition, head, &store[..n], slots, report, area);
                 return Ate {
                     refused,
                     eaten,

@@ -1,15 +1,17 @@
-// The whole box: receiver and four slots by value; feed, silence, forget; reports of 16 octets.
+// The whole box: edition, receiver and four slots by value; feed, silence, forget; reports of 16 octets.
 pub mod frame;
 mod heard;
 pub mod lent;
 
+use apdu::Edition;
 use frames::Receiver;
 use rebuild::Slots;
 ghost use mathlib.Core.Path.{_≡_};
 ghost use Rattle.collector.specs.Calls.{freshCollector, Feeds, Stills, Forgets};
 
-// The state that one trunk has.
+// The state that one trunk has; the edition is the one that it began with.
 pub struct Collector {
+    pub edition: Edition,
     pub receiver: Receiver,
     pub slots: Slots,
 }
@@ -36,26 +38,26 @@ pub struct Forgot {
 }
 
 impl Collector {
-    // A fresh receiver and four free slots.
-    pub const FRESH: Collector = Collector {
-        receiver: Receiver::FRESH,
-        slots: Slots::FREE,
-    };
-
-    pub fn fresh() -> Collector
-        ensures { λ r. ⌜ r ≡ freshCollector ⌝ }
+    // A fresh receiver and four free slots, for an edition.
+    pub fn fresh(edition: Edition) -> Collector
+        ensures { λ r. ⌜ r ≡ freshCollector edition ⌝ }
     {
-        Collector::FRESH
+        Collector {
+            edition,
+            receiver: Receiver::FRESH,
+            slots: Slots::FREE,
+        }
     }
 
     // Eats octets through the first that causes a report, else all.
     pub fn feed(self, piece: &[u8], report: &mut [u8], area: &mut [u8]) -> Fed
         ensures { λ r. ⌜ Feeds self (now (report .entry)) (now (area .entry)) (now (piece .entry)) r (now (report .exit)) (now (area .exit)) ⌝ }
     {
+        let edition = self.edition;
         let link = self.receiver.link;
         let mut store = self.receiver.store;
         let slots = self.slots;
-        let f = lent::feed(link, slots, &mut store, piece, report, area);
+        let f = lent::feed(edition, link, slots, &mut store, piece, report, area);
         let link = f.link;
         let slots = f.slots;
         let receiver = Receiver { link, store };
@@ -63,7 +65,11 @@ impl Collector {
             refused: f.refused,
             eaten: f.eaten,
             reported: f.reported,
-            state: Collector { receiver, slots },
+            state: Collector {
+                edition,
+                receiver,
+                slots,
+            },
         }
     }
 
@@ -71,6 +77,7 @@ impl Collector {
     pub fn silence(self, report: &mut [u8]) -> Fell
         ensures { λ r. ⌜ Stills self (now (report .entry)) r (now (report .exit)) ⌝ }
     {
+        let edition = self.edition;
         let link = self.receiver.link;
         let store = self.receiver.store;
         let slots = self.slots;
@@ -80,7 +87,11 @@ impl Collector {
         Fell {
             refused: f.refused,
             reported: f.reported,
-            state: Collector { receiver, slots },
+            state: Collector {
+                edition,
+                receiver,
+                slots,
+            },
         }
     }
 
@@ -88,6 +99,7 @@ impl Collector {
     pub fn forget(self, s: u8) -> Forgot
         ensures { λ r. ⌜ Forgets self s r ⌝ }
     {
+        let edition = self.edition;
         let receiver = self.receiver;
         let link = receiver.link;
         let slots = self.slots;
@@ -95,7 +107,11 @@ impl Collector {
         let slots = f.slots;
         Forgot {
             number: f.number,
-            state: Collector { receiver, slots },
+            state: Collector {
+                edition,
+                receiver,
+                slots,
+            },
         }
     }
 }

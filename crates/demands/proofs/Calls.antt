@@ -83,8 +83,8 @@ fed : (c : Collector) (piece report area : List ℕ) → One (Fed × List ℕ ×
 fed c piece report area =
     let d = feeding c report area piece in
     record {
-      answer = (record { refused = feedRefusal c report area; eaten = d .eaten; reported = saidSo (d .said); state = stateOf d }, written (d .said) report, d .area);
-      allowed = tells (feedRefusal c report area) d report;
+      answer = (record { refused = feedRefusal c report area; eaten = d .eaten; reported = saidSo (d .said); state = stateOf (c .edition) d }, written (d .said) report, d .area);
+      allowed = tells (c .edition) (feedRefusal c report area) d report;
       same = λ r r′ a b. let e = feeds-one c report area piece a b in λ i. (e .0 i, e .1 i, e .2 i);
     }
 
@@ -92,8 +92,8 @@ fell : (c : Collector) (report : List ℕ) → One (Fell × List ℕ) (λ x. Sti
 fell c report =
     let d = stilling c report [] in
     record {
-      answer = (record { refused = silenceRefusal c report; reported = saidSo (d .said); state = stateOf d }, written (d .said) report);
-      allowed = falls (silenceRefusal c report) d report;
+      answer = (record { refused = silenceRefusal c report; reported = saidSo (d .said); state = stateOf (c .edition) d }, written (d .said) report);
+      allowed = falls (c .edition) (silenceRefusal c report) d report;
       same = λ r r′ a b. let e = stills-one c report a b in λ i. (e .0 i, e .1 i);
     }
 
@@ -104,8 +104,8 @@ replayed : (c : Collector) (records report area : List ℕ) → One (Played × L
 replayed c o report area =
     let w = playing c report area o in
     record {
-      answer = (playedBy w, written (w .left .said) report, w .left .area);
-      allowed = comes w report;
+      answer = (playedBy (c .edition) w, written (w .left .said) report, w .left .area);
+      allowed = comes (c .edition) w report;
       same = λ x y a b. (let q = plays-one c report area o a b in λ i. (q .0 i, q .1 i, q .2 i));
     }
 
@@ -123,8 +123,8 @@ one-answer =
       receiver-silence = λ m. equal _ _;
       npdu-read = λ s. equal _ _;
       npdu-write = λ h out. laid _ _ out;
-      apdu-read = λ s. equal _ _;
-      apdu-write = λ p out. laid _ _ out;
+      apdu-read = λ e s. equal _ _;
+      apdu-write = λ e p out. laid _ _ out;
       items-count = λ s. equal _ _;
       items-list = λ s out. listed s out;
       items-item-at = λ s at. equal _ _;
@@ -138,7 +138,7 @@ one-answer =
       reader-first = λ s. equal _ _;
       rebuild-take = λ t g o area. given _;
       rebuild-forget = λ t s. freed t s;
-      collector-fresh = equal _ _;
+      collector-fresh = λ e. equal _ _;
       collector-feed = λ c piece report area. fed c piece report area;
       collector-silence = λ c report. fell c report;
       collector-forget = λ c s. forgot c s;

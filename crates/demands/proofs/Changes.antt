@@ -8,6 +8,7 @@ use lib.Dec.{eqb}
 use lib.ListN.{length}
 use borrow.Author.Tests.{eqb-false}
 use Rattle.octets.specs.Choice.{pick, by-test}
+use Rattle.apdu.specs.declared.Edition.{Edition}
 use Rattle.frames.specs.Step.{soundOf, feedOf, silenceOf}
 use Rattle.frames.specs.declared.Receiver.{Receiver}
 use Rattle.runs.specs.Offered.{answer, caught}
@@ -36,7 +37,7 @@ use Rattle.demands.specs.Demands.{FeedRefused, SilenceRefused, ForgetRef
 pub feed-refused : FeedRefused
 feed-refused c piece report area r report′ area′ h n =
     let keep : Feeds c report area piece (unfedBy (feedRefusal c report area) c) report area =
-    rw (refused-keeps c report area piece (λ e. n (h .refused ∙ e))) (record { refused = refl; eaten = refl; reported = refl; receiver = refl; slots = refl; reportAfter = refl; areaAfter = refl }) in
+    rw (refused-keeps c report area piece (λ e. n (h .refused ∙ e))) (record { refused = refl; eaten = refl; reported = refl; edition = refl; receiver = refl; slots = refl; reportAfter = refl; areaAfter = refl }) in
     let k = feeds-one c report area piece h keep in
     (k .0 ∙ ap (λ (x : ℕ). unfedBy x c) (sym (h .refused)), k .1, k .2)
 
@@ -52,11 +53,11 @@ silence-keeps c report n =
 pub silence-refused : SilenceRefused
 silence-refused c report r report′ h n =
     let keep : Stills c report (quietBy (silenceRefusal c report) c) report =
-    rw (silence-keeps c report (λ e. n (h .refused ∙ e))) (record { refused = refl; reported = refl; receiver = refl; slots = refl; reportAfter = refl }) in
+    rw (silence-keeps c report (λ e. n (h .refused ∙ e))) (record { refused = refl; reported = refl; edition = refl; receiver = refl; slots = refl; reportAfter = refl }) in
     let k = stills-one c report h keep in
     (k .0 ∙ ap (λ (x : ℕ). quietBy x c) (sym (h .refused)), k .1)
 
-forget-keeps : (c : Collector) (s : ℕ) → (pick (sound (c .receiver) (slotsOf c)) (forgetNumber keys s (slotsOf c)) 59 ≡ 0 → ⊥) → box .free s (c .receiver) (slotsOf c) ≡ slotsOf c
+forget-keeps : (c : Collector) (s : ℕ) → (pick (sound (c .receiver) (slotsOf c)) (forgetNumber keys s (slotsOf c)) 59 ≡ 0 → ⊥) → box (c .edition) .free s (c .receiver) (slotsOf c) ≡ slotsOf c
 forget-keeps c s n =
     by-test (passing (slotsOf c))
     (λ p. by-test (soundOf (c .receiver))
@@ -67,20 +68,21 @@ forget-keeps c s n =
 pub forget-refused : ForgetRefused
 forget-refused c s r h n =
     let k = view-one (r .state .slots) (c .slots) (h .slots ∙ forget-keeps c s (λ e. n (h .number ∙ e))) in
+    let d = h .edition in
     let v = h .receiver in
-    λ i. record { receiver = v i; slots = k i }
+    λ i. record { edition = d i; receiver = v i; slots = k i }
 
 -- ---- a report has its size
 abbrev Whole : List ℕ → Type 0
 Whole o = length o ≡ reportSize
 
-plainly : (o : Trunk.Out) → Whole (plainAt o)
-plainly (whole head payload) = report-size _
-plainly (damage n) = report-size _
+plainly : (edition : Edition) (o : Trunk.Out) → Whole (plainAt edition o)
+plainly edition (whole head payload) = report-size _
+plainly edition (damage n) = report-size _
 
-answering : (o : Trunk.Out) (w : Rows.Answer) (area : List ℕ) → Whole (answeredAt o w area)
-answering (whole head payload) w area = report-size _
-answering (damage n) w area = report-size _
+answering : (edition : Edition) (o : Trunk.Out) (w : Rows.Answer) (area : List ℕ) → Whole (answeredAt edition o w area)
+answering edition (whole head payload) w area = report-size _
+answering edition (damage n) w area = report-size _
 
 -- ---- a piece that is not refused
 no : {X : Type 0} (n : ℕ) → eqb n 0 ≡ false → n ≡ 0 → X
@@ -89,7 +91,7 @@ no n e z = absurd (eqb-false n 0 e z)
 module _ (c : Collector) (report area : List ℕ) where
   not-refused : (piece : List ℕ) → feedRefusal c report area ≡ 0
       → (let f = feedOf (c .receiver) piece in
-      feeding c report area piece ≡ caught (rules keys bacnet) (outOf (f .outcome) (f .receiver)) (f .eaten) (f .receiver) (slotsOf c) area (answer (f .eaten) none (f .receiver) (slotsOf c) area))
+      feeding c report area piece ≡ caught (rules keys (bacnet (c .edition))) (outOf (f .outcome) (f .receiver)) (f .eaten) (f .receiver) (slotsOf c) area (answer (f .eaten) none (f .receiver) (slotsOf c) area))
   unfolding feedRefusal feeding
   not-refused piece e =
       by-test (eqb (length report) reportSize)
@@ -101,18 +103,18 @@ module _ (c : Collector) (report area : List ℕ) where
       (λ k. no 60 refl (rw k at e))
 
   -- by the segment, and by the outcome
-  by-segment : (o : Trunk.Out) (y : Option (Segment Key)) → (let w = actOn keys bacnet y o (slotsOf c) area in Whole (w .0) × BySegment c area o y (w .0) (w .1) (w .2))
-  by-segment o none = (plainly o, (refl, refl, refl))
-  by-segment o (some g) = let d = rebuild keys g (boxed (slotsOf c) area) in (answering o (d .answer) (d .box .area), (refl, refl, refl))
+  by-segment : (o : Trunk.Out) (y : Option (Segment Key)) → (let w = actOn keys (bacnet (c .edition)) y o (slotsOf c) area in Whole (w .0) × BySegment c area o y (w .0) (w .1) (w .2))
+  by-segment o none = (plainly (c .edition) o, (refl, refl, refl))
+  by-segment o (some g) = let d = rebuild keys g (boxed (slotsOf c) area) in (answering (c .edition) o (d .answer) (d .box .area), (refl, refl, refl))
 
   by-outcome : (x : Option Trunk.Out) (n : ℕ) (m : Receiver)
-      → (let d = caught (rules keys bacnet) x n m (slotsOf c) area (answer n none m (slotsOf c) area) in ByOutcome c report area x (saidSo (d .said)) (written (d .said) report) (d .slots) (d .area))
+      → (let d = caught (rules keys (bacnet (c .edition))) x n m (slotsOf c) area (answer n none m (slotsOf c) area) in ByOutcome c report area x (saidSo (d .said)) (written (d .said) report) (d .slots) (d .area))
   by-outcome none n m = (refl, refl, refl, refl)
-  by-outcome (some o) n m = let h = by-segment o (segmentAt o) in (refl, h .0, h .1)
+  by-outcome (some o) n m = let h = by-segment o (segmentAt (c .edition) o) in (refl, h .0, h .1)
 
   -- an outcome's answer eats and leaves what the receiver did
   caught-eaten : (x : Option Trunk.Out) (n : ℕ) (m : Receiver)
-      → (let d = caught (rules keys bacnet) x n m (slotsOf c) area (answer n none m (slotsOf c) area) in (d .eaten ≡ n) × (d .state ≡ m))
+      → (let d = caught (rules keys (bacnet (c .edition))) x n m (slotsOf c) area (answer n none m (slotsOf c) area) in (d .eaten ≡ n) × (d .state ≡ m))
   caught-eaten none n m = (refl, refl)
   caught-eaten (some o) n m = (refl, refl)
 
@@ -120,7 +122,7 @@ pub feed-does : FeedDoes
 feed-does c piece report area r report′ area′ h z =
     let f = feedOf (c .receiver) piece in
     let x = outOf (f .outcome) (f .receiver) in
-    let d = caught (rules keys bacnet) x (f .eaten) (f .receiver) (slotsOf c) area (answer (f .eaten) none (f .receiver) (slotsOf c) area) in
+    let d = caught (rules keys (bacnet (c .edition))) x (f .eaten) (f .receiver) (slotsOf c) area (answer (f .eaten) none (f .receiver) (slotsOf c) area) in
     let e : feeding c report area piece ≡ d = not-refused c report area piece (sym (h .refused) ∙ z) in
     let k = caught-eaten c report area x (f .eaten) (f .receiver) in
     record {

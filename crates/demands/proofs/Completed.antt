@@ -23,6 +23,7 @@ use Rattle.npdu.specs.Reading.{readNpdu}
 use Rattle.npdu.specs.declared.Reading.{Reading}
 use Rattle.apdu.specs.Reading.{readApdu}
 use Rattle.apdu.proofs.Exact.{kind-read}
+use Rattle.apdu.specs.declared.Edition.{Edition}
 use Rattle.apdu.specs.declared.Answer as Apdu
 use Rattle.apdu.specs.declared.Answer.the-variants.{Good, Refused}
 use Rattle.items.specs.Reading as Items
@@ -49,7 +50,7 @@ use Rattle.collector.specs.Frame.Content.{other, refuses, network, refusesBehin
 use Rattle.collector.specs.declared.heard.Heard.{Heard}
 use Rattle.collector.specs.declared.heard.Parts.{Parts}
 use Rattle.collector.specs.Calls.{slotsOf}
-use Rattle.collector.specs.Offering.{Passes, End}
+use Rattle.collector.specs.Offering.{Passes, BoxEnd, End}
 use Rattle.collector.specs.declared.Collector.{Collector}
 use Rattle.collector.proofs.Demand as Collecting
 use Rattle.hitchbarley.proofs.Demand.{octets-demand3}
@@ -65,28 +66,28 @@ use Rattle.demands.proofs.Three.{read-by-position, can-be-offered, reac
 abbrev Typed : Parts → Type 0
 Typed m = m .apdu .first / 16 ≡ m .kind
 
-apdu-in : (v : Route) (b : List ℕ) (y : Apdu.Answer) → readApdu b ≡ y → (u : Route) (m : Parts) (o : List ℕ) → apduContent v b y ≡ message u m o → Typed m
+apdu-in : (edition : Edition) (v : Route) (b : List ℕ) (y : Apdu.Answer) → readApdu edition b ≡ y → (u : Route) (m : Parts) (o : List ℕ) → apduContent v b y ≡ message u m o → Typed m
 unfolding partsOf
-apdu-in v b (Good q) ok u m o e = let z : partsOf q (oct b 0) ≡ m = cc in subst Typed z (kind-read b q ok)
-apdu-in v b (Refused n) ok u m o e = impossible (cc)
+apdu-in edition v b (Good q) ok u m o e = let z : partsOf q (oct b 0) ≡ m = cc in subst Typed z (kind-read edition b q ok)
+apdu-in edition v b (Refused n) ok u m o e = impossible (cc)
 
-npdu-in : (payload : List ℕ) (n : Reading) (u : Route) (m : Parts) (o : List ℕ) → npduContent payload n ≡ message u m o → Typed m
+npdu-in : (edition : Edition) (payload : List ℕ) (n : Reading) (u : Route) (m : Parts) (o : List ℕ) → npduContent edition payload n ≡ message u m o → Typed m
 unfolding npduContent
-npdu-in payload n u m o e =
+npdu-in edition payload n u m o e =
     let a = drop (n .next) payload in
     let v = routeOf (n .head) in
     by-test (ltb 0 (n .refused)) (λ t. let z : refuses (n .refused) ≡ message u m o = rw t at e in impossible (cc))
     (λ t.
-    given-cases (λ (x : Content). x ≡ message u m o → Typed m) (n .head .message) (network v (length payload - n .next)) (apduContent v a (readApdu a))
+    given-cases (λ (x : Content). x ≡ message u m o → Typed m) (n .head .message) (network v (length payload - n .next)) (apduContent v a (readApdu edition a))
     (λ _ q. impossible (cc))
-    (λ _ q. apdu-in v a (readApdu a) refl u m o q)
+    (λ _ q. apdu-in edition v a (readApdu edition a) refl u m o q)
     (rw t at e))
 
 content-in : (w : Heard) (payload : List ℕ) (u : Route) (m : Parts) (o : List ℕ) → contentOf w payload ≡ message u m o → Typed m
 unfolding contentOf
 content-in w payload u m o e =
-    by-test (eqb (w .frame .kind) 5) (λ t. npdu-in payload (readNpdu payload) u m o (rw t at e))
-    (λ t. by-test (eqb (w .frame .kind) 6) (λ t′. npdu-in payload (readNpdu payload) u m o (rw (t, t′) at e))
+    by-test (eqb (w .frame .kind) 5) (λ t. npdu-in (w .edition) payload (readNpdu payload) u m o (rw t at e))
+    (λ t. by-test (eqb (w .frame .kind) 6) (λ t′. npdu-in (w .edition) payload (readNpdu payload) u m o (rw (t, t′) at e))
     (λ t′. let z : other (length payload) ≡ message u m o = rw (t, t′) at e in impossible (cc)))
 
 -- ---- the report r of a segment of key k, by its answer w and the area after it
@@ -148,10 +149,10 @@ told-by w (message v m a) g e ok b =
     let d = rebuild keys g b in
     by-answer w m a (ok v m a refl) g is b (d .answer) (d .box .slots) (d .box .area) (segment-does g b)
 
-segment-told : (o : Out) (g : Segment Key) → segmentAt o ≡ some g → (b : Box Key)
-    → (let d = rebuild keys g b in Told (g .key) (d .answer) (d .box .area) (answeredAt o (d .answer) (d .box .area)))
-segment-told (whole head payload) g e b = let w = heardOf head in told-by w (contentOf w payload) g e (content-in w payload) b
-segment-told (damage n) g e b = impossible (cc)
+segment-told : (edition : Edition) (o : Out) (g : Segment Key) → segmentAt edition o ≡ some g → (b : Box Key)
+    → (let d = rebuild keys g b in Told (g .key) (d .answer) (d .box .area) (answeredAt edition o (d .answer) (d .box .area)))
+segment-told edition (whole head payload) g e b = let w = heardOf edition head in told-by w (contentOf w payload) g e (content-in w payload) b
+segment-told edition (damage n) g e b = impossible (cc)
 
 -- accepted or not is what the report says
 accepted-told : (k : Key) (w : Answer) (area r : List ℕ) → Told k w area r → accepted w ≡ accepted (answerIn r)
@@ -175,10 +176,10 @@ module _ (kind : ℕ) (four-five : Between 4 5 kind) where
   plain-kind w (refusesBehind v n) e = omega (arith, four-five .1, e)
   plain-kind w (message v m a) e = tags-kind (unsegmented (w .frame) (m .apdu) (length a)) (itemsOf (paramsOf m a)) refl e
 
-  out-kind : (o : Out) → kindIn (plainAt o) ≡ kind → ⊥
+  out-kind : (edition : Edition) (o : Out) → kindIn (plainAt edition o) ≡ kind → ⊥
   unfolding reportOctets
-  out-kind (whole head payload) e = plain-kind (heardOf head) (contentOf (heardOf head) payload) e
-  out-kind (damage n) e = omega (arith, four-five .0, e)
+  out-kind edition (whole head payload) e = plain-kind (heardOf edition head) (contentOf (heardOf edition head) payload) e
+  out-kind edition (damage n) e = omega (arith, four-five .0, e)
 
 -- ---- the answer to a segment, by its MOR
 module _ (g : Segment Key) where
@@ -243,7 +244,7 @@ stood-over [] k = (refl, refl)
 stood-over (t ∷ ts) k = pick-case (λ (l : Log Key). (since keys k l ≡ []) × (begun keys k l ≡ false)) (t .used) (stood-over ts k) (stood-over ts k)
 
 -- ---- behind a front part of a run
-module _ {M : Type 0} (t : Trace Out M) (rs : List (ℕ × List ℕ)) (back : Run) where
+module _ (edition : Edition) {M : Type 0} (t : Trace Out M) (rs : List (ℕ × List ℕ)) (back : Run) where
   abbrev Agrees : ℕ → List (ℕ × List ℕ) → Type 0
   Agrees p here = (j : ℕ) → p ≤ j → reportAt j rs ≡ reportAt j here
 
@@ -253,12 +254,12 @@ module _ {M : Type 0} (t : Trace Out M) (rs : List (ℕ × List ℕ)) (back : Ru
     pub a : List ℕ
     pub log : Log Key
     pub heard-log : Log Key
-    pub deeds-on : P ≡ runs keys (past log (boxed s a)) (deeds keys bacnet t q back)
-    pub heard-on : heard ≡ heardLog t rs q back heard-log
+    pub deeds-on : P ≡ runs keys (past log (boxed s a)) (deeds keys (bacnet edition) t q back)
+    pub heard-on : heard ≡ heardLog edition t rs q back heard-log
     pub same : Same log heard-log
-    pub slots-on : slots ≡ walk (rules keys bacnet) t q s a back .slots
-    pub area-on : area ≡ walk (rules keys bacnet) t q s a back .area
-    pub says : Agrees q (walk (rules keys bacnet) t q s a back .reports)
+    pub slots-on : slots ≡ walk (rules keys (bacnet edition)) t q s a back .slots
+    pub area-on : area ≡ walk (rules keys (bacnet edition)) t q s a back .area
+    pub says : Agrees q (walk (rules keys (bacnet edition)) t q s a back .reports)
 
   past-it : (p : ℕ) (r : List ℕ) (here : List (ℕ × List ℕ)) → Agrees p ((p, r) ∷ here) → Agrees (p + 1) here
   past-it p r here h j l = let other : eqb p j ≡ false = ne-eqb p j (λ e. omega arith) in h j (omega arith) ∙ rw other
@@ -270,38 +271,38 @@ module _ {M : Type 0} (t : Trace Out M) (rs : List (ℕ × List ℕ)) (back : Ru
       (on : (s : List (Slot Key)) (a : List ℕ) (log log′ : Log Key) → Agrees (p + 1) (k s a .reports) → Same log log′
       → Behind q (runs keys (past log (boxed s a)) ds) (heard log′) (k s a .slots) (k s a .area))
       (s : List (Slot Key)) (a : List ℕ) (log log′ : Log Key) where
-    by-segment : (o : Out) (z : Option (Segment Key)) → segmentAt o ≡ z
-        → (let d = actOn keys bacnet z o s a in Agrees p ((p, d .0) ∷ k (d .1) (d .2) .reports) → Same log log′
-        → Behind q (runs keys (past log (boxed s a)) (deedOf keys bacnet z ++ ds)) (heard (heardEntry z (reportAt p rs) log′))
+    by-segment : (o : Out) (z : Option (Segment Key)) → segmentAt edition o ≡ z
+        → (let d = actOn keys (bacnet edition) z o s a in Agrees p ((p, d .0) ∷ k (d .1) (d .2) .reports) → Same log log′
+        → Behind q (runs keys (past log (boxed s a)) (deedOf keys (bacnet edition) z ++ ds)) (heard (heardEntry z (reportAt p rs) log′))
         (k (d .1) (d .2) .slots) (k (d .1) (d .2) .area))
-    by-segment o none e h same = on s a log log′ (past-it p (plainAt o) (k s a .reports) h) same
+    by-segment o none e h same = on s a log log′ (past-it p (plainAt edition o) (k s a .reports) h) same
     by-segment o (some g) e h same =
         let d = rebuild keys g (boxed s a) in
-        let r = answeredAt o (d .answer) (d .box .area) in
+        let r = answeredAt edition o (d .answer) (d .box .area) in
         let rest = k (d .box .slots) (d .box .area) in
-        let P = runs keys (past log (boxed s a)) (deedOf keys bacnet (some g) ++ ds) in
+        let P = runs keys (past log (boxed s a)) (deedOf keys (bacnet edition) (some g) ++ ds) in
         subst (λ (v : Option (List ℕ)). Behind q P (heard (heardEntry (some g) v log′)) (rest .slots) (rest .area))
         (sym (at-it p r (rest .reports) h))
         (on (d .box .slots) (d .box .area) (said g (d .answer) ∷ log) (said g (answerIn r) ∷ log′) (past-it p r (rest .reports) h)
-        (same-said g (d .answer) (answerIn r) log log′ (accepted-told (g .key) (d .answer) (d .box .area) r (segment-told o g e (boxed s a))) same))
+        (same-said g (d .answer) (answerIn r) log log′ (accepted-told (g .key) (d .answer) (d .box .area) r (segment-told edition o g e (boxed s a))) same))
 
-    by-outcome : (y : Option Out) → (let w = acted (rules keys bacnet) p y s a k in Agrees p (w .reports) → Same log log′
-        → Behind q (runs keys (past log (boxed s a)) (deedsAt keys bacnet y ++ ds)) (heard (heardEntry (segmentEnding y) (reportAt p rs) log′)) (w .slots) (w .area))
+    by-outcome : (y : Option Out) → (let w = acted (rules keys (bacnet edition)) p y s a k in Agrees p (w .reports) → Same log log′
+        → Behind q (runs keys (past log (boxed s a)) (deedsAt keys (bacnet edition) y ++ ds)) (heard (heardEntry (segmentEnding edition y) (reportAt p rs) log′)) (w .slots) (w .area))
     by-outcome none h same = on s a log log′ (λ j l. h j (omega arith)) same
-    by-outcome (some o) h same = by-segment o (segmentAt o) refl h same
+    by-outcome (some o) h same = by-segment o (segmentAt edition o) refl h same
 
   behind : (q : ℕ) (front : Run) (p : ℕ) → p + length (wire front) ≡ q → (s : List (Slot Key)) (a : List ℕ) (log log′ : Log Key)
-      → (let run = front ++ back in let w = walk (rules keys bacnet) t p s a run in Agrees p (w .reports) → Same log log′
-      → Behind q (runs keys (past log (boxed s a)) (deeds keys bacnet t p run)) (heardLog t rs p run log′) (w .slots) (w .area))
+      → (let run = front ++ back in let w = walk (rules keys (bacnet edition)) t p s a run in Agrees p (w .reports) → Same log log′
+      → Behind q (runs keys (past log (boxed s a)) (deeds keys (bacnet edition) t p run)) (heardLog edition t rs p run log′) (w .slots) (w .area))
   unfolding Rows.forget
   behind q [] p e s a log log′ h same =
-      let w = walk (rules keys bacnet) t p s a back in
+      let w = walk (rules keys (bacnet edition)) t p s a back in
       let z : p ≡ q = omega (arith, e) in
-      subst (λ (q : ℕ). Behind q (runs keys (past log (boxed s a)) (deeds keys bacnet t p back)) (heardLog t rs p back log′) (w .slots) (w .area)) z
+      subst (λ (q : ℕ). Behind q (runs keys (past log (boxed s a)) (deeds keys (bacnet edition) t p back)) (heardLog edition t rs p back log′) (w .slots) (w .area)) z
       (record { s = s; a = a; log = log; heard-log = log′; deeds-on = refl; heard-on = refl; same = same; slots-on = refl; area-on = refl; says = h })
   behind q (trunk e ∷ front) p z s a log log′ h same =
       let run = front ++ back in
-      by-outcome q p (λ s a. walk (rules keys bacnet) t (p + 1) s a run) (deeds keys bacnet t (p + 1) run) (heardLog t rs (p + 1) run)
+      by-outcome q p (λ s a. walk (rules keys (bacnet edition)) t (p + 1) s a run) (deeds keys (bacnet edition) t (p + 1) run) (heardLog edition t rs (p + 1) run)
       (λ s a log log′ h same. behind q front (p + 1) (omega (arith, z)) s a log log′ h same) s a log log′ (ended p t) h same
   behind q (forget i ∷ front) p z s a log log′ h same =
       behind q front p z (Rows.forgotten keys i s) a (after keys (forgetting i) (past log (boxed s a)) .log) log′ h
@@ -318,18 +319,18 @@ module _ (c : Collector) (area : List ℕ) (P : Passes c) (z : length area ≡ 6
   abbrev read : Trace Out Receiver
   read = readFrom (c .receiver) (wire run)
 
-  abbrev end : End
-  end = walk (rules keys bacnet) read (length (heldOf (c .receiver))) (slotsOf c) area run
+  abbrev end : BoxEnd
+  end = walk (rules keys (bacnet (c .edition))) read (length (heldOf (c .receiver))) (slotsOf c) area run
 
   abbrev hist : Log Key
-  hist = history keys bacnet read (length (heldOf (c .receiver))) (slotsOf c) area run
+  hist = history keys (bacnet (c .edition)) read (length (heldOf (c .receiver))) (slotsOf c) area run
 
   abbrev log : Log Key
   log = heardFrom c run (end .reports)
 
-  B : (let P = runs keys (past (standing (slotsOf c)) (boxed (slotsOf c) area)) (deeds keys bacnet read (length (heldOf (c .receiver))) run) in
-      Behind read (end .reports) (trunk x ∷ []) place P log (end .slots) (end .area))
-  B = behind read (end .reports) (trunk x ∷ []) place front (length (heldOf (c .receiver))) refl (slotsOf c) area (standing (slotsOf c)) [] (λ j l. refl) (stood-over (slotsOf c))
+  B : (let P = runs keys (past (standing (slotsOf c)) (boxed (slotsOf c) area)) (deeds keys (bacnet (c .edition)) read (length (heldOf (c .receiver))) run) in
+      Behind (c .edition) read (end .reports) (trunk x ∷ []) place P log (end .slots) (end .area))
+  B = behind (c .edition) read (end .reports) (trunk x ∷ []) place front (length (heldOf (c .receiver))) refl (slotsOf c) area (standing (slotsOf c)) [] (λ j l. refl) (stood-over (slotsOf c))
 
   four : length (end .slots) ≡ 4
   unfolding reading
@@ -341,30 +342,30 @@ module _ (c : Collector) (area : List ℕ) (P : Passes c) (z : length area ≡ 6
 
   -- the report at the last place is that of what ends there
   reported-by : (y : Option Out) → ended place read ≡ y → (report : List ℕ)
-      → some report ≡ reportAt place (acted (rules keys bacnet) place y (B .s) (B .a) (λ s a. ends [] (last read) s a) .reports)
-      → (o : Out) × (ended place read ≡ some o) × (report ≡ rules keys bacnet .act o (B .s) (B .a) .0)
+      → some report ≡ reportAt place (acted (rules keys (bacnet (c .edition))) place y (B .s) (B .a) (λ s a. ends [] (last read) s a) .reports)
+      → (o : Out) × (ended place read ≡ some o) × (report ≡ rules keys (bacnet (c .edition)) .act o (B .s) (B .a) .0)
   reported-by none e report h = impossible (cc)
   reported-by (some o) e report h =
-      let k : some report ≡ some (rules keys bacnet .act o (B .s) (B .a) .0) = rw (eq-eqb place place refl) at h in
+      let k : some report ≡ some (rules keys (bacnet (c .edition)) .act o (B .s) (B .a) .0) = rw (eq-eqb place place refl) at h in
       (o, e, cc)
 
   reported : (report : List ℕ) → reportAt place (end .reports) ≡ some report
-      → (o : Out) × (ended place read ≡ some o) × (report ≡ rules keys bacnet .act o (B .s) (B .a) .0)
+      → (o : Out) × (ended place read ≡ some o) × (report ≡ rules keys (bacnet (c .edition)) .act o (B .s) (B .a) .0)
   reported report h = reported-by (ended place read) refl report (sym h ∙ B .says place (omega arith))
 
   -- where a segment ends there
-  module _ (o : Out) (g : Segment Key) (here : ended place read ≡ some o) (is : segmentAt o ≡ some g) where
+  module _ (o : Out) (g : Segment Key) (here : ended place read ≡ some o) (is : segmentAt (c .edition) o ≡ some g) where
     abbrev done : Rows.Done Key
     done = rebuild keys g (boxed (B .s) (B .a))
 
     abbrev line : List ℕ
-    line = answeredAt o (done .answer) (done .box .area)
+    line = answeredAt (c .edition) o (done .answer) (done .box .area)
 
-    spoken : rules keys bacnet .act o (B .s) (B .a) .0 ≡ line
+    spoken : rules keys (bacnet (c .edition)) .act o (B .s) (B .a) .0 ≡ line
     spoken = rw is
 
     told : Told (g .key) (done .answer) (done .box .area) line
-    told = segment-told o g is (boxed (B .s) (B .a))
+    told = segment-told (c .edition) o g is (boxed (B .s) (B .a))
 
     hist-is : hist ≡ said g (done .answer) ∷ B .log
     hist-is = ap (λ (p : Past Key). p .log) (B .deeds-on) ∙ rw (here, is)
@@ -401,12 +402,12 @@ module _ (c : Collector) (area : List ℕ) (P : Passes c) (z : length area ≡ 6
         judged : begun keys (g .key) log ≡ true → itemsOf (part (room * i) n (done .box .area)) ≡ itemsOf (joined (since keys (g .key) log))
         judged bg = ap itemsOf (ap (part (room * i) n) (sym area-is) ∙ whole-message bg .octets)
 
-  segment-by : (kind : ℕ) → Between 4 5 kind → (report : List ℕ) (o : Out) → ended place read ≡ some o → (y : Option (Segment Key)) → segmentAt o ≡ y
-      → report ≡ rules keys bacnet .act o (B .s) (B .a) .0 → kindIn report ≡ kind
+  segment-by : (kind : ℕ) → Between 4 5 kind → (report : List ℕ) (o : Out) → ended place read ≡ some o → (y : Option (Segment Key)) → segmentAt (c .edition) o ≡ y
+      → report ≡ rules keys (bacnet (c .edition)) .act o (B .s) (B .a) .0 → kindIn report ≡ kind
       → OfSegment c front x (end .reports) (end .area) report (eqb kind 4)
   segment-by kind row report o here none is e k =
-      let plain : rules keys bacnet .act o (B .s) (B .a) .0 ≡ plainAt o = rw is in
-      absurd (out-kind kind row o (subst (λ (r : List ℕ). kindIn r ≡ kind) (e ∙ plain) k))
+      let plain : rules keys (bacnet (c .edition)) .act o (B .s) (B .a) .0 ≡ plainAt (c .edition) o = rw is in
+      absurd (out-kind kind row (c .edition) o (subst (λ (r : List ℕ). kindIn r ≡ kind) (e ∙ plain) k))
   segment-by kind row report o here (some g) is e k = by (told o g here is)
     where
       eq : report ≡ line o g here is
@@ -415,8 +416,8 @@ module _ (c : Collector) (area : List ℕ) (P : Passes c) (z : length area ≡ 6
       k′ : kindIn (line o g here is) ≡ kind
       k′ = subst (λ (r : List ℕ). kindIn r ≡ kind) eq k
 
-      ends-so : segmentEnding (ended place read) ≡ some g
-      ends-so = ap segmentEnding here ∙ is
+      ends-so : segmentEnding (c .edition) (ended place read) ≡ some g
+      ends-so = ap (segmentEnding (c .edition)) here ∙ is
 
       mors : ByMor g (done o g here is)
       mors = by-mor g (boxed (B .s) (B .a))
@@ -431,13 +432,13 @@ module _ (c : Collector) (area : List ℕ) (P : Passes c) (z : length area ≡ 6
       by (faulty i n w d b f) = absurd (omega (arith, d, k′, row .1))
       by (fine i n w d s l y f) = (g, ends-so, ap keyIn eq ∙ y, completed-mor g (done o g here is) mors i n w ∙ is-four 5 d)
 
-  complete-by : (report : List ℕ) (o : Out) → ended place read ≡ some o → (y : Option (Segment Key)) → segmentAt o ≡ y
-      → report ≡ rules keys bacnet .act o (B .s) (B .a) .0
+  complete-by : (report : List ℕ) (o : Out) → ended place read ≡ some o → (y : Option (Segment Key)) → segmentAt (c .edition) o ≡ y
+      → report ≡ rules keys (bacnet (c .edition)) .act o (B .s) (B .a) .0
       → reportAt place (end .reports) ≡ some report → kindIn report ≡ 5
       → Whole c front x (end .reports) (end .area) report
   complete-by report o here none is e so k =
-      let plain : rules keys bacnet .act o (B .s) (B .a) .0 ≡ plainAt o = rw is in
-      absurd (out-kind 5 (omega arith, omega arith) o (subst (λ (r : List ℕ). kindIn r ≡ 5) (e ∙ plain) k))
+      let plain : rules keys (bacnet (c .edition)) .act o (B .s) (B .a) .0 ≡ plainAt (c .edition) o = rw is in
+      absurd (out-kind 5 (omega arith, omega arith) (c .edition) o (subst (λ (r : List ℕ). kindIn r ≡ 5) (e ∙ plain) k))
   complete-by report o here (some g) is e so k = by (told o g here is)
     where
       eq : report ≡ line o g here is
@@ -458,8 +459,8 @@ module _ (c : Collector) (area : List ℕ) (P : Passes c) (z : length area ≡ 6
           rw (eq, y, s, l) (λ bg.
           (within o g here is so′ i n w, whole-message o g here is so′ i n w bg, λ m q. f m (judged o g here is so′ i n w bg ∙ q)))
 
-  bad-by : (report : List ℕ) (o : Out) → ended place read ≡ some o → (g : Segment Key) → segmentAt o ≡ some g
-      → report ≡ rules keys bacnet .act o (B .s) (B .a) .0
+  bad-by : (report : List ℕ) (o : Out) → ended place read ≡ some o → (g : Segment Key) → segmentAt (c .edition) o ≡ some g
+      → report ≡ rules keys (bacnet (c .edition)) .act o (B .s) (B .a) .0
       → reportAt place (end .reports) ≡ some report → kindIn report ≡ 6 → tagNumber (numberIn report) ≡ true
       → WholeButTags c front x (end .reports) (end .area) report g
   bad-by report o here g is e so k tag = by (told o g here is)
@@ -494,14 +495,14 @@ module _ (c : Collector) (area : List ℕ) (P : Passes c) (z : length area ≡ 6
       record {
         with-mor = λ report so k.
             let w = reported report so in
-            segment-by 4 (omega arith, omega arith) report (w .0) (w .1) (segmentAt (w .0)) refl (w .2) k;
+            segment-by 4 (omega arith, omega arith) report (w .0) (w .1) (segmentAt (c .edition) (w .0)) refl (w .2) k;
         without-mor = λ report so k.
             let w = reported report so in
-            segment-by 5 (omega arith, omega arith) report (w .0) (w .1) (segmentAt (w .0)) refl (w .2) k;
-        complete = λ report so k. let w = reported report so in complete-by report (w .0) (w .1) (segmentAt (w .0)) refl (w .2) so k;
+            segment-by 5 (omega arith, omega arith) report (w .0) (w .1) (segmentAt (c .edition) (w .0)) refl (w .2) k;
+        complete = λ report so k. let w = reported report so in complete-by report (w .0) (w .1) (segmentAt (c .edition) (w .0)) refl (w .2) so k;
         bad-tags = λ report so k tag g is bg.
             let w = reported report so in
-            bad-by report (w .0) (w .1) g (subst (λ (y : Option Out). segmentEnding y ≡ some g) (w .1) is) (w .2) so k tag bg;
+            bad-by report (w .0) (w .1) g (subst (λ (y : Option Out). segmentEnding (c .edition) y ≡ some g) (w .1) is) (w .2) so k tag bg;
       }
 
 pub completed-as-reported : CompletedAsReported

@@ -14,6 +14,8 @@ use Rattle.runs.specs.Run.{Run}
 use Rattle.runs.specs.Run.Event.{octet}
 use Rattle.runs.specs.Run.Order.{trunk}
 use Rattle.frames.specs.Step.{lengthOf}
+use Rattle.apdu.specs.declared.Edition.{Edition}
+use Rattle.apdu.specs.declared.Edition.the-variants.{First, Later}
 use Rattle.trunk.specs.Reading.{readingOf, readFrom}
 use Rattle.trunk.specs.Demand.{reading}
 use Rattle.npdu.specs.Reading as Npdu
@@ -59,28 +61,30 @@ reportsBy y =
     let last = complete (record { kind = 0x06; destination = 0x21; source = 0x43 }) (record { first = 0x38; invoke = 0x57; choice = 0x0E }) 1 7 in
     (18, otherReport) ∷ (39, firstReport) ∷ (59, reportOctets (byTags y last)) ∷ []
 
-computed : (area : List ℕ)
-    → reading (rules keys bacnet) (freshCollector .receiver) (slotsOf freshCollector) area run .reports ≡ reportsBy (itemsOf (part 16384 7 (laid area)))
+computed : (d : Edition) (area : List ℕ)
+    → reading (rules keys (bacnet d)) (freshCollector d .receiver) (slotsOf (freshCollector d)) area run .reports ≡ reportsBy (itemsOf (part 16384 7 (laid area)))
 unfolding reading readFrom readingOf headerMix dataBits dataBit splice lengthOf contentOf npduContent given Npdu.readNpdu Npdu.afterVersion Npdu.afterDest Npdu.afterSource Npdu.afterTail Npdu.partIf Npdu.noPart Npdu.tailAt Npdu.joined Npdu.messageAt Npdu.ended Npdu.refusedBy Apdu.readApdu Apdu.readRequest Apdu.readComplexAck Apdu.readTail tailEnd rebuild startsAt nextNumber sameKey reportOctets partsOf digits
-computed area = refl
+computed First area = refl
+computed Later area = refl
 
 -- what is heard of the message
 abbrev heard : List (ℕ × List ℕ)
 heard = (18, otherReport) ∷ (39, firstReport) ∷ (59, secondReport) ∷ []
 
-says : (let log = heardFrom freshCollector run heard in (begun keys (keyIn secondReport) log ≡ true) × (joined (since keys (keyIn secondReport) log) ≡ all))
+says : (d : Edition) → (let log = heardFrom (freshCollector d) run heard in (begun keys (keyIn secondReport) log ≡ true) × (joined (since keys (keyIn secondReport) log) ≡ all))
 unfolding readFrom readingOf headerMix dataBits dataBit splice lengthOf contentOf npduContent given Npdu.readNpdu Npdu.afterVersion Npdu.afterDest Npdu.afterSource Npdu.afterTail Npdu.partIf Npdu.noPart Npdu.tailAt Npdu.joined Npdu.messageAt Npdu.ended Npdu.refusedBy Apdu.readApdu Apdu.readRequest Apdu.readComplexAck Apdu.readTail tailEnd startsAt nextNumber sameKey partsOf valueAt
-says = (refl, refl)
+says First = (refl, refl)
+says Later = (refl, refl)
 
 pub completed-worked : CompletedWorked
 unfolding valueAt reportOctets digits
-completed-worked area z e o =
+completed-worked d area z e o =
     let Reports : Type 0 = List (ℕ × List ℕ) in
     let q : e .reports ≡ heard =
-    ap (λ (e : End). e .reports) (read-by-position freshCollector area fresh z run e o) ∙ computed area
+    ap (λ (e : End). e .reports) (read-by-position (freshCollector d) area (fresh d) z run e o) ∙ computed d area
     ∙ ap (λ (o : List ℕ). reportsBy (itemsOf o)) (laid-all area z) ∙ ap reportsBy (worked .group) in
-    let bg : begun keys (keyIn secondReport) (heardFrom freshCollector run (e .reports)) ≡ true =
-    ap (λ (rs : Reports). begun keys (keyIn secondReport) (heardFrom freshCollector run rs)) q ∙ says .0 in
+    let bg : begun keys (keyIn secondReport) (heardFrom (freshCollector d) run (e .reports)) ≡ true =
+    ap (λ (rs : Reports). begun keys (keyIn secondReport) (heardFrom (freshCollector d) run rs)) q ∙ says d .0 in
     let so : reportAt 59 (e .reports) ≡ some secondReport = ap (reportAt 59) q in
-    let w = completed-as-reported freshCollector area fresh z workedFront (octet 0x1C) e o .complete secondReport so refl bg in
-    (q, bg, w .1 .octets ∙ ap (λ (rs : Reports). joined (since keys (keyIn secondReport) (heardFrom freshCollector run rs))) q ∙ says .1)
+    let w = completed-as-reported (freshCollector d) area (fresh d) z workedFront (octet 0x1C) e o .complete secondReport so refl bg in
+    (q, bg, w .1 .octets ∙ ap (λ (rs : Reports). joined (since keys (keyIn secondReport) (heardFrom (freshCollector d) run rs))) q ∙ says d .1)

@@ -107,14 +107,14 @@ module _ (state : List ℕ) (own : Own state) where
   unfolding feedLeft
   feed-own {report} {area} {piece} {state′ = state′} y =
       by-test (eqb (feedBar state report area) 0)
-      (λ z. own-next state′ (stateOf (feeding (inside state) report area piece)) (y .stateAfter ∙ rw z) (y .again (eqb-true _ _ z)))
+      (λ z. own-next state′ (stateOf (inside state .edition) (feeding (inside state) report area piece)) (y .stateAfter ∙ rw z) (y .again (eqb-true _ _ z)))
       (λ z. own-same state state′ (y .stateAfter ∙ rw z) own)
 
   pub silence-own : {report : List ℕ} {r reported : ℕ} {state′ report′ : List ℕ} → Stills state report r reported state′ report′ → Own state′
   unfolding silenceLeft
   silence-own {report} {state′ = state′} y =
       by-test (eqb (silenceBar state report) 0)
-      (λ z. own-next state′ (stateOf (stilling (inside state) report [])) (y .stateAfter ∙ rw z) (y .again (eqb-true _ _ z)))
+      (λ z. own-next state′ (stateOf (inside state .edition) (stilling (inside state) report [])) (y .stateAfter ∙ rw z) (y .again (eqb-true _ _ z)))
       (λ z. own-same state state′ (y .stateAfter ∙ rw z) own)
 
   pub forget-own : {s r : ℕ} {state′ : List ℕ} → Forgets state s r state′ → Own state′
@@ -155,7 +155,7 @@ of-bad state c l q = ⊎-elim (λ lacks. absurd (lacks c l)) (λ h. held-one sta
 
 -- ---- hb_fresh
 pub exported-fresh : ExportedFresh
-exported-fresh state r state′ y =
+exported-fresh state later r state′ y =
     by-test (eqb (length state) stateSize)
     (λ e.
     let n = eqb-true (length state) stateSize e in
@@ -441,8 +441,8 @@ apdu-judges (HeaderIs.Good p) h = record { not-sixty = λ z. differ 0 60 refl re
 apdu-judges (HeaderIs.Refused n) h = record { not-sixty = λ z. below-60 n 24 (h n refl .1) (omega arith) z; so = λ g. not-so g }
 
 pub exported-apdu-read : ExportedApduRead
-exported-apdu-read s fields r next fields′ y =
-    reads-to y _ (apdu-judges (readApdu s) (header-numbers s))
+exported-apdu-read edition s fields r next fields′ y =
+    reads-to y _ (apdu-judges (readApdu edition s) (header-numbers edition s))
     (λ n.
     let number = number-below (y .filled) n in (
       λ x e. number ∙ ap apduNumber e,
@@ -591,11 +591,11 @@ exported-npdu-write fields area r wrote later y =
 
 pub exported-apdu-write : ExportedApduWrite
 unfolding apduFault
-exported-apdu-write fields area r wrote later y =
-    writes-from (length fields ≡ apduSize) (eqb (length fields) apduSize) (pick (leb (oct fields 0) 7) (HeaderFault.faultOf (apduAt fields)) 21) _ area r wrote later
+exported-apdu-write edition fields area r wrote later y =
+    writes-from (length fields ≡ apduSize) (eqb (length fields) apduSize) (pick (leb (oct fields 0) 7) (HeaderFault.faultOf edition (apduAt fields)) 21) _ area r wrote later
     (eqb-true _ _) (eq-eqb _ _)
     (pick-case Not-sixty (leb (oct fields 0) 7)
-    (λ z. ⊎-elim (λ e. differ 0 60 refl e z) (λ q. absurd (omega (arith, q .1))) (header-writer-numbers (apduAt fields))) (λ z. omega arith)) y
+    (λ z. ⊎-elim (λ e. differ 0 60 refl e z) (λ q. absurd (omega (arith, q .1))) (header-writer-numbers edition (apduAt fields))) (λ z. omega arith)) y
 
 pub exported-service-write : ExportedServiceWrite
 unfolding serviceFault

@@ -13,6 +13,7 @@ use Rattle.octets.specs.Reading.{oct}
 use Rattle.npdu.specs.Reading.{readNpdu}
 use Rattle.apdu.specs.Reading.{readApdu}
 use Rattle.apdu.specs.Fields.{paramsAt}
+use Rattle.apdu.specs.declared.Edition.{Edition}
 use Rattle.apdu.specs.declared.Answer.the-variants.{Refused}
 use Rattle.apdu.specs.declared.Pdu.{Pdu}
 use Rattle.apdu.specs.declared.Pdu.the-variants.{Request, Unconfirmed, SimpleAck, ComplexAck, SegmentAck, Error, Reject, Abort}
@@ -56,50 +57,50 @@ unfolding partsOf
 parts-params p first = refl
 
 -- ---- what a good frame's data are, by what stands in them
-module _ (h d : List ℕ) where
+module _ (edition : Edition) (h d : List ℕ) where
   pub five-or-six : (FiveOrSix h) ⊎ (FiveOrSix h → ⊥)
   five-or-six =
       by-test (eqb (oct h 0) 5) (λ e. inl (inl (eqb-true (oct h 0) 5 e)))
       (λ n. by-test (eqb (oct h 0) 6) (λ e. inl (inr (eqb-true (oct h 0) 6 e)))
       (λ m. inr (λ t. ⊎-elim (eqb-false (oct h 0) 5 n) (eqb-false (oct h 0) 6 m) t)))
 
-  pub is-other : (FiveOrSix h → ⊥) → contentOf (heardOf h) d ≡ other (length d)
-  is-other n = content-other (heardOf h) d (λ e. n (inl e)) (λ e. n (inr e))
+  pub is-other : (FiveOrSix h → ⊥) → contentOf (heardOf edition h) d ≡ other (length d)
+  is-other n = content-other (heardOf edition h) d (λ e. n (inl e)) (λ e. n (inr e))
 
-  is-npdu : FiveOrSix h → contentOf (heardOf h) d ≡ npduContent d (readNpdu d)
-  is-npdu t = ⊎-elim (content-5 (heardOf h) d) (λ e. content-6 (heardOf h) d (λ f. absurd (omega arith)) e) t
+  is-npdu : FiveOrSix h → contentOf (heardOf edition h) d ≡ npduContent edition d (readNpdu d)
+  is-npdu t = ⊎-elim (content-5 (heardOf edition h) d) (λ e. content-6 (heardOf edition h) d (λ f. absurd (omega arith)) e) t
 
-  pub is-refused : FiveOrSix h → (readNpdu d .refused ≡ 0 → ⊥) → contentOf (heardOf h) d ≡ refuses (readNpdu d .refused)
-  is-refused t n = is-npdu t ∙ npdu-refused d (readNpdu d) refl (omega arith)
+  pub is-refused : FiveOrSix h → (readNpdu d .refused ≡ 0 → ⊥) → contentOf (heardOf edition h) d ≡ refuses (readNpdu d .refused)
+  is-refused t n = is-npdu t ∙ npdu-refused edition d (readNpdu d) refl (omega arith)
 
   message-flag : {b : Bool} {o : List ℕ} → Behind h d b o → readNpdu d .head .message ≡ b
   message-flag k = rw (k .read .header) (k .layer)
 
-  pub is-network : {o : List ℕ} → Behind h d true o → contentOf (heardOf h) d ≡ network (routeOf (readNpdu d .head)) (length o)
+  pub is-network : {o : List ℕ} → Behind h d true o → contentOf (heardOf edition h) d ≡ network (routeOf (readNpdu d .head)) (length o)
   is-network {o} k =
       let n : length o ≡ length d - readNpdu d .next = ap length (sym (k .read .left)) ∙ length-drop (readNpdu d .next) d in
       let z = k .read .accepted in
-      rw n (is-npdu (k .type) ∙ npdu-network d (readNpdu d) refl (omega arith) (message-flag k))
+      rw n (is-npdu (k .type) ∙ npdu-network edition d (readNpdu d) refl (omega arith) (message-flag k))
 
-  is-apdu : {a : List ℕ} → Behind h d false a → contentOf (heardOf h) d ≡ apduContent (routeOf (readNpdu d .head)) a (readApdu a)
+  is-apdu : {a : List ℕ} → Behind h d false a → contentOf (heardOf edition h) d ≡ apduContent (routeOf (readNpdu d .head)) a (readApdu edition a)
   is-apdu {a} k =
       let z = k .read .accepted in
-      is-npdu (k .type) ∙ npdu-apdu d (readNpdu d) refl (omega arith) (message-flag k)
-      ∙ ap (λ (o : List ℕ). apduContent (routeOf (readNpdu d .head)) o (readApdu o)) (k .read .left)
+      is-npdu (k .type) ∙ npdu-apdu edition d (readNpdu d) refl (omega arith) (message-flag k)
+      ∙ ap (λ (o : List ℕ). apduContent (routeOf (readNpdu d .head)) o (readApdu edition o)) (k .read .left)
 
-  pub is-bad : {a : List ℕ} {n : ℕ} → Behind h d false a → readApdu a ≡ Refused n → contentOf (heardOf h) d ≡ refusesBehind (routeOf (readNpdu d .head)) n
-  is-bad {a} {n} k e = is-apdu k ∙ apdu-refused _ a n refl e
+  pub is-bad : {a : List ℕ} {n : ℕ} → Behind h d false a → readApdu edition a ≡ Refused n → contentOf (heardOf edition h) d ≡ refusesBehind (routeOf (readNpdu d .head)) n
+  is-bad {a} {n} k e = is-apdu k ∙ apdu-refused edition _ a n refl e
 
-  pub is-message : {a t : List ℕ} {p : Pdu} → Carries h d a p t → contentOf (heardOf h) d ≡ message (routeOf (readNpdu d .head)) (partsOf p (oct a 0)) a
-  is-message {a} {t} {p} k = is-apdu (k .behind) ∙ apdu-good _ a p refl (k .read .0) refl
+  pub is-message : {a t : List ℕ} {p : Pdu} → Carries edition h d a p t → contentOf (heardOf edition h) d ≡ message (routeOf (readNpdu d .head)) (partsOf p (oct a 0)) a
+  is-message {a} {t} {p} k = is-apdu (k .behind) ∙ apdu-good edition _ a p refl (k .read .0) refl
 
   -- where a good network header was read
   pub behind : (b : Bool) → FiveOrSix h → readNpdu d .refused ≡ 0 → readNpdu d .head .message ≡ b → Behind h d b (drop (readNpdu d .next) d)
   behind b t z m = record { type = t; head = readNpdu d .head; read = record { accepted = z; header = refl; left = refl }; layer = m }
 
   -- by what the content is
-  pub segment-by : {x : Content} → contentOf (heardOf h) d ≡ x → segmentAt (good h d) ≡ segmentIn (heardOf h) x
+  pub segment-by : {x : Content} → contentOf (heardOf edition h) d ≡ x → segmentAt edition (good h d) ≡ segmentIn (heardOf edition h) x
   segment-by e = rw e
 
-  pub plain-by : {x : Content} → contentOf (heardOf h) d ≡ x → plainAt (good h d) ≡ reportOctets (plainReport (heardOf h) x)
+  pub plain-by : {x : Content} → contentOf (heardOf edition h) d ≡ x → plainAt edition (good h d) ≡ reportOctets (plainReport (heardOf edition h) x)
   plain-by e = rw e

@@ -9,6 +9,8 @@ use Rattle.octets.specs.Numbers.{valueAt, digits}
 use Rattle.octets.specs.Splice.{splice, splice-length, splice-join, splice-inside}
 use Rattle.sums.specs.Sums.{headerMix, dataBits, dataBit}
 use Rattle.frames.specs.Step.{lengthOf}
+use Rattle.apdu.specs.declared.Edition.{Edition}
+use Rattle.apdu.specs.declared.Edition.the-variants.{First, Later}
 use Rattle.trunk.specs.Reading.{readingOf, readFrom}
 use Rattle.trunk.specs.Demand.{reading}
 use Rattle.npdu.specs.Reading as Npdu
@@ -33,7 +35,8 @@ use Rattle.demands.proofs.ReportsWorked.{reported, Computes, as-worked}
 
 apdus-computed : Computes apduCases
 unfolding reading readFrom readingOf headerMix dataBits dataBit splice lengthOf contentOf npduContent given Npdu.readNpdu Npdu.afterVersion Npdu.afterDest Npdu.afterSource Npdu.afterTail Npdu.partIf Npdu.noPart Npdu.tailAt Npdu.vendorAt Npdu.joined Npdu.messageAt Npdu.ended Npdu.refusedBy Apdu.readApdu Apdu.readRequest Apdu.readUnconfirmed Apdu.readComplexAck Apdu.readSegmentAck Apdu.readReject Apdu.readTail tailEnd itemsOf walk step closes ending more headAt numberAt lengthAt twoAt fourAt firstRule firstContent contentsAt wholeAt signBad signedAt contextAt applicationAt least most rebuild startsAt nextNumber sameKey reportOctets partsOf valueAt digits Npdu.partOf Npdu.partNet Npdu.partLen Npdu.addressOf Apdu.readSimpleAck Apdu.readError Apdu.readAbort
-apdus-computed area z = refl
+apdus-computed First area z = refl
+apdus-computed Later area z = refl
 
 pub apdus-worked : ApdusWorked
 apdus-worked = as-worked apduCases apdus-computed
@@ -77,9 +80,10 @@ segmentsBy x y =
     oneHeld ∷ routedHeld ∷ otherNumber ∷ otherChoice ∷ (routedWhole .0, reportOctets (byTags x fine)) ∷ (wholeBadTags .0, reportOctets (byTags y alone))
     ∷ noneHeld ∷ fourHeld ∷ fiveHeld ∷ threeHeld ∷ noSlot ∷ []
 
-segments-by : (area : List ℕ) → reported area segmentCases ≡ placed 0 (segmentsBy (itemsOf (part 16384 7 (once area))) (itemsOf (part 16384 3 (again area))))
+segments-by : (d : Edition) (area : List ℕ) → reported d area segmentCases ≡ placed 0 (segmentsBy (itemsOf (part 16384 7 (once area))) (itemsOf (part 16384 3 (again area))))
 unfolding reading readFrom readingOf headerMix dataBits dataBit splice lengthOf contentOf npduContent given Npdu.readNpdu Npdu.afterVersion Npdu.afterDest Npdu.afterSource Npdu.afterTail Npdu.partIf Npdu.noPart Npdu.tailAt Npdu.vendorAt Npdu.joined Npdu.messageAt Npdu.ended Npdu.refusedBy Apdu.readApdu Apdu.readRequest Apdu.readUnconfirmed Apdu.readComplexAck Apdu.readSegmentAck Apdu.readReject Apdu.readTail tailEnd headAt numberAt lengthAt twoAt fourAt firstRule firstContent contentsAt wholeAt signBad signedAt contextAt applicationAt least most rebuild startsAt nextNumber sameKey reportOctets partsOf valueAt digits Npdu.partOf Npdu.partNet Npdu.partLen Npdu.addressOf Apdu.readSimpleAck Apdu.readError Apdu.readAbort
-segments-by area = refl
+segments-by First area = refl
+segments-by Later area = refl
 
 tags-told : placed 0 (segmentsBy (itemsOf twoSegments) (itemsOf oneSegment)) ≡ placed 0 segmentCases
 unfolding reportOctets digits
@@ -88,8 +92,8 @@ tags-told =
     ∙ ap (λ (x : Items.Out). placed 0 (segmentsBy x (bad 34))) (worked .group)
 
 segments-computed : Computes segmentCases
-segments-computed area z =
-    segments-by area
+segments-computed d area z =
+    segments-by d area
     ∙ ap (λ (o : List ℕ). placed 0 (segmentsBy (itemsOf o) (itemsOf (part 16384 3 (again area))))) (once-laid area z)
     ∙ ap (λ (o : List ℕ). placed 0 (segmentsBy (itemsOf twoSegments) (itemsOf o))) (again-laid area z)
     ∙ tags-told
@@ -99,7 +103,8 @@ segment-frames-worked = as-worked segmentCases segments-computed
 
 refusals-computed : Computes refusedCases
 unfolding reading readFrom readingOf headerMix dataBits dataBit splice lengthOf contentOf npduContent given Npdu.readNpdu Npdu.afterVersion Npdu.afterDest Npdu.afterSource Npdu.afterTail Npdu.partIf Npdu.noPart Npdu.tailAt Npdu.vendorAt Npdu.joined Npdu.messageAt Npdu.ended Npdu.refusedBy Apdu.readApdu Apdu.readRequest Apdu.readUnconfirmed Apdu.readComplexAck Apdu.readSegmentAck Apdu.readReject Apdu.readTail tailEnd itemsOf walk step closes ending more headAt numberAt lengthAt twoAt fourAt firstRule firstContent contentsAt wholeAt signBad signedAt contextAt applicationAt least most rebuild startsAt nextNumber sameKey reportOctets partsOf valueAt digits Npdu.partOf Npdu.partNet Npdu.partLen Npdu.addressOf Apdu.readSimpleAck Apdu.readError Apdu.readAbort
-refusals-computed area z = refl
+refusals-computed First area z = refl
+refusals-computed Later area z = refl
 
 pub refusals-worked : RefusalsWorked
 refusals-worked = as-worked refusedCases refusals-computed

@@ -1,10 +1,16 @@
 -- The APDU headers' rows, from the laws of apdu.
-use mathlib.Core.Path.{refl}
+use native.Mathlib.Omega.{arith}
+use mathlib.Core.Path.{_≡_, refl}
+use mathlib.Core.Bool.{false}
+use lib.Dec.{ltb}
+use borrow.Author.Tests.{le-ltb}
 use Rattle.octets.specs.Choice.{given}
+use Rattle.apdu.specs.declared.Edition.{Edition}
 use Rattle.apdu.specs.Reading.{readApdu, readTail, readRequest, readUnconfirmed, readSimpleAck, readComplexAck, readSegmentAck, readError, readReject, readAbort}
+use Rattle.apdu.specs.Editions.{most}
 use Rattle.apdu.specs.Fields.{tailEnd}
 use Rattle.apdu.specs.Layout.{flag, firstOctet, tail}
-use Rattle.apdu.specs.Fault.{morFault, windowFault, segmentFault, sizeFault}
+use Rattle.apdu.specs.Fault.{morFault, windowFault, segmentFault, codeFault, sizeFault}
 use Rattle.apdu.proofs.LeftToRight.{left-to-right}
 use Rattle.apdu.proofs.Rows.{row-20, row-21, row-22, row-23, row-24, one-outcome}
 use Rattle.apdu.proofs.FirstFault.{fault-22, fault-23, fault-none, fault-read}
@@ -32,18 +38,22 @@ pub header-one-outcome : HeaderOneOutcome
 header-one-outcome = one-outcome
 
 pub header-writer-exact : HeaderWriterExact
-header-writer-exact p = (fault-22 p, fault-23 p, fault-none p)
+header-writer-exact edition p = (fault-22 edition p, fault-23 edition p, fault-none edition p)
 
 pub header-writer-as-read : HeaderWriterAsRead
 header-writer-as-read = fault-read
 
+-- a code of 0 is above no edition's greatest
+no-code : (e : Edition) → ltb (most e) 0 ≡ false
+no-code e = le-ltb (most e) 0 (omega arith)
+
 pub headers-worked : HeadersWorked
-unfolding readApdu readTail readRequest readUnconfirmed readSimpleAck readComplexAck readSegmentAck readError readReject readAbort tailEnd flag firstOctet tail morFault windowFault segmentFault sizeFault given
-headers-worked =
+unfolding readApdu readTail readRequest readUnconfirmed readSimpleAck readComplexAck readSegmentAck readError readReject readAbort tailEnd flag firstOctet tail morFault windowFault segmentFault codeFault sizeFault given
+headers-worked e =
     record {
-      request-more = record { read = refl; place = refl; fine = refl; laid = refl };
-      request-last = record { read = refl; place = refl; fine = refl; laid = refl };
-      request-whole = record { read = refl; place = refl; fine = refl; laid = refl };
+      request-more = record { read = rw (no-code e); place = refl; fine = rw (no-code e); laid = refl };
+      request-last = record { read = rw (no-code e); place = refl; fine = rw (no-code e); laid = refl };
+      request-whole = record { read = rw (no-code e); place = refl; fine = rw (no-code e); laid = refl };
       unconfirmed = record { read = refl; place = refl; fine = refl; laid = refl };
       simple-ack = record { read = refl; place = refl; fine = refl; laid = refl };
       complex-ack-more = record { read = refl; place = refl; fine = refl; laid = refl };
@@ -58,17 +68,17 @@ headers-worked =
     }
 
 pub headers-refused : HeadersRefused
-unfolding readApdu readTail readRequest readUnconfirmed readSimpleAck readComplexAck readSegmentAck readError readReject readAbort morFault windowFault segmentFault sizeFault given
-headers-refused =
+unfolding readApdu readTail readRequest readUnconfirmed readSimpleAck readComplexAck readSegmentAck readError readReject readAbort morFault windowFault segmentFault codeFault sizeFault given
+headers-refused e =
     record {
-      size = (refl, refl, refl, refl, refl, refl, refl, refl, refl);
-      request-window = (refl, refl, refl, refl, refl, refl, refl, refl);
+      size = rw (no-code e) (refl, refl, refl, refl, refl, refl, refl, refl);
+      request-window = rw (no-code e) (refl, refl, refl, refl, refl, refl, refl, refl);
       complex-ack-window = (refl, refl, refl, refl, refl, refl, refl, refl);
       segment-ack-window = (refl, refl, refl, refl, refl, refl, refl, refl);
-      no-window = (refl, refl);
+      no-window = rw (no-code e) (refl, refl);
       types = (refl, refl, refl, refl, refl, refl);
       zero-bits = (refl, refl, refl, refl, refl, refl, refl, refl, refl, refl, refl, refl, refl, refl, refl, refl, refl, refl, refl, refl, refl, refl, refl, refl, refl, refl, refl);
       left-over = (refl, refl, refl, refl, refl);
-      two-faults = (refl, refl, refl, refl, refl, refl, refl, refl, refl, refl);
-      early = (refl, refl, refl, refl, refl, refl, refl, refl, refl, refl, refl, refl, refl, refl, refl);
+      two-faults = rw (no-code e) (refl, refl, refl, refl, refl, refl, refl, refl, refl);
+      early = rw (no-code e) (refl, refl, refl, refl, refl, refl, refl, refl, refl, refl, refl, refl, refl, refl, refl);
     }

@@ -11,6 +11,7 @@ pub mod Three
 pub mod Worked
 pub mod Contracts
 pub mod HeaderRows
+pub mod Editions
 pub mod SegmentRows
 pub mod TagRows
 pub mod Steps

@@ -27,9 +27,7 @@ use Rattle.npdu.specs.Fault.{partRules, partFault, sooner, faultOf}
 use Rattle.npdu.specs.Reading.{readNpdu, refusedBy}
 use Rattle.npdu.proofs.Outcome as Network
 use Rattle.apdu.proofs.Exact as Header
-use Rattle.apdu.specs.Fault as HeaderFault
-use Rattle.apdu.specs.declared.Segment.{Segment}
-use Rattle.apdu.specs.declared.Pdu.the-variants.{Request, Unconfirmed, SimpleAck, ComplexAck, SegmentAck, Error, Reject, Abort}
+use Rattle.apdu.proofs.FirstFault.{fault-range}
 use Rattle.demands.specs.Words.{Between}
 use Rattle.demands.specs.Demands.{NetworkNumbers, HeaderNumbers, CountNumbers, ItemNumbers, NetworkWriterNumbers, HeaderWriterNumbers}
 
@@ -110,7 +108,7 @@ network-numbers s = by (Network.outcome s .either)
     by (inr r) = inr (r .number, r .blank)
 
 pub header-numbers : HeaderNumbers
-header-numbers s n e = Header.refusal-range s n e
+header-numbers edition s n e = Header.refusal-range edition s n e
 
 -- ---- the fields of a header to be written
 abbrev Twelve : ℕ → Type 0
@@ -129,40 +127,5 @@ network-writer-numbers h =
     pick-case Twelve (ltb 3 (h .priority)) (inr (omega arith, omega arith))
     (pick-case Twelve (eqb (partFault (h .dest) (h .dnet) (h .dlen) 0 65535) 0) (part-numbers (h .source) (h .snet) (h .slen) 1 65534) (part-numbers (h .dest) (h .dnet) (h .dlen) 0 65535))
 
-abbrev TwentyTwo : ℕ → Type 0
-TwentyTwo n = (n ≡ 0) ⊎ Between 22 23 n
-
-r22 : TwentyTwo 22
-r22 = inr (omega arith, omega arith)
-
-r23 : TwentyTwo 23
-r23 = inr (omega arith, omega arith)
-
-mor-numbers : (g : Segment) → TwentyTwo (HeaderFault.morFault g)
-unfolding HeaderFault.morFault
-mor-numbers g = given-cases TwentyTwo (g .seg) _ _ (λ _. inl refl) (λ _. given-cases TwentyTwo (g .mor) _ _ (λ _. r22) (λ _. inl refl))
-
-window-numbers : (w : ℕ) → TwentyTwo (HeaderFault.windowFault w)
-unfolding HeaderFault.windowFault
-window-numbers w = pick-case TwentyTwo (eqb w 0) r23 (pick-case TwentyTwo (ltb 127 w) r23 (inl refl))
-
-segment-numbers : (g : Segment) → TwentyTwo (HeaderFault.segmentFault g)
-unfolding HeaderFault.segmentFault
-segment-numbers g = given-cases TwentyTwo (g .seg) _ _ (λ _. window-numbers (g .window)) (λ _. inl refl)
-
-size-numbers : (size : ℕ) → TwentyTwo (HeaderFault.sizeFault size)
-unfolding HeaderFault.sizeFault
-size-numbers size = pick-case TwentyTwo (ltb 5 size) r23 (inl refl)
-
-or-numbers : (a b : ℕ) → TwentyTwo a → TwentyTwo b → TwentyTwo (HeaderFault.orElse a b)
-or-numbers a b x y = pick-case TwentyTwo (eqb a 0) y x
-
 pub header-writer-numbers : HeaderWriterNumbers
-header-writer-numbers (Request p) = or-numbers _ _ (mor-numbers (p .segment)) (or-numbers _ _ (size-numbers (p .size)) (segment-numbers (p .segment)))
-header-writer-numbers (Unconfirmed p) = inl refl
-header-writer-numbers (SimpleAck p) = inl refl
-header-writer-numbers (ComplexAck p) = or-numbers _ _ (mor-numbers (p .segment)) (segment-numbers (p .segment))
-header-writer-numbers (SegmentAck p) = window-numbers (p .window)
-header-writer-numbers (Error p) = inl refl
-header-writer-numbers (Reject p) = inl refl
-header-writer-numbers (Abort p) = inl refl
+header-writer-numbers = fault-range

@@ -11,6 +11,7 @@ use Rattle.octets.specs.Laid.{answerOf, areaOf}
 use Rattle.items.specs.Reading.{itemsOf, counted, oneAt, endOf}
 use Rattle.items.specs.Listing.{listedOf, listing}
 use Rattle.collector.specs.Calls.{freshCollector}
+use Rattle.state.specs.Edition.{editionOf}
 use Rattle.state.specs.Layout.{stateSize, stateOctets}
 use Rattle.state.specs.Calls.{Saves}
 use Rattle.hitchbarley.specs.Trunk as Trunk
@@ -27,11 +28,11 @@ equal : (x : ℕ) → One ℕ (λ r. r ≡ x)
 equal x = record { answer = x; allowed = refl; same = λ r r′ a b. a ∙ sym b }
 
 -- ---- the calls of a trunk
-fresh : (state : List ℕ) → One (ℕ × List ℕ) (λ x. Saves freshCollector state (x .0) (x .1))
-fresh state =
+fresh : (state : List ℕ) (later : ℕ) → One (ℕ × List ℕ) (λ x. Saves (freshCollector (editionOf later)) state (x .0) (x .1))
+fresh state later =
     record {
-      answer = (pick (eqb (length state) stateSize) 0 60, pick (eqb (length state) stateSize) (stateOctets freshCollector) state);
-      allowed = saves-some state;
+      answer = (pick (eqb (length state) stateSize) 0 60, pick (eqb (length state) stateSize) (stateOctets (freshCollector (editionOf later))) state);
+      allowed = saves-some (editionOf later) state;
       same = λ r r′ a b. let e = saves-one a b in λ i. (e .0 i, e .1 i);
     }
 
@@ -123,8 +124,8 @@ one-exported =
       hb-replay = replayed;
       hb-npdu-read = λ octets fields. filled-to _ _ _ _ _ fields;
       hb-npdu-write = λ fields out. wrote _ _ out;
-      hb-apdu-read = λ octets fields. filled-to _ _ _ _ _ fields;
-      hb-apdu-write = λ fields out. wrote _ _ out;
+      hb-apdu-read = λ octets later fields. filled-to _ _ _ _ _ fields;
+      hb-apdu-write = λ fields later out. wrote _ _ out;
       hb-items-count = numbered;
       hb-items-list = listed;
       hb-item-next = stepped;

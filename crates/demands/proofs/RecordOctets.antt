@@ -4,6 +4,7 @@ use Rattle.octets.specs.Numbers.{valueAt}
 use Rattle.records.specs.Network.{npduRecord, npduAt}
 use Rattle.records.specs.Application.{segmentAt, apduAt}
 use Rattle.records.specs.Service.{serviceRecord, serviceOf, serviceAt}
+use Rattle.records.proofs.Applications.{apdu-back}
 use Rattle.demands.specs.RecordOctets.{NetworkRecords, HeaderRecords, ServiceRecords, NetworkTaken, HeadersTaken, ServicesTaken}
 
 pub network-records : NetworkRecords
@@ -20,6 +21,8 @@ pub header-records : HeaderRecords
 unfolding apduAt segmentAt
 header-records =
     record {
+      again = apdu-back;
+      code = λ x. record { there = refl; back = refl };
       request = record { there = refl; back = refl };
       more = record { there = refl; back = refl };
       accepted = record { there = refl; back = refl };

@@ -15,9 +15,11 @@ use Rattle.runs.specs.Run.Event.{octet, silence}
 use Rattle.runs.specs.Run.Order.{trunk, forget}
 use Rattle.runs.specs.Offered.{answer}
 use Rattle.runs.specs.Offered.Offer.{call}
+use Rattle.apdu.specs.declared.Edition.{Edition}
 use Rattle.frames.specs.declared.Receiver.{Receiver}
-use Rattle.frames.specs.Step.{soundOf, stepOf, feedFrom, stillOf, silenceOf}
+use Rattle.frames.specs.Step.{freshOf, soundOf, stepOf, feedFrom, stillOf, silenceOf}
 use Rattle.messages.specs.Slots as Messages
+use Rattle.rebuild.specs.View.{view, fresh}
 use Rattle.rebuild.specs.declared.Key.{Key}
 use Rattle.rebuild.proofs.Page.{fresh-passes}
 use Rattle.rebuild.proofs.Seen.{view-one}
@@ -117,7 +119,7 @@ Sized report area = (length report ≡ reportSize) × (length area ≡ 65536)
 
 feeds-first : (c : Collector) (report area : List ℕ) → Arrays c → SixtyThenFiftyNine (feedRefusal c report area) (Sized report area) (Broken c)
 feeds-first c report area A =
-    feed-numbers c [] report area _ _ _ (A .four) (tells (feedRefusal c report area) (feeding c report area []) report)
+    feed-numbers c [] report area _ _ _ (A .four) (tells (c .edition) (feedRefusal c report area) (feeding c report area []) report)
 
 -- a state that passes
 ready-of : (c : Collector) (report area : List ℕ) → feedRefusal c report area ≡ 0 → Ready (c .receiver) (slotsOf c) area
@@ -136,7 +138,7 @@ module _ (c : Collector) (area o : List ℕ) (P : Passes c) (z : length area ≡
   front = readRecords o .front
 
   abbrev played : Answered
-  played = play (c .receiver) (slotsOf c) area front
+  played = play (c .edition) (c .receiver) (slotsOf c) area front
 
   -- a bad record that is reached is the first bad one, behind a silent run
   reaches : Stopped c area o → (readRecords o .stop ≡ 67) × (played .said ≡ none)
@@ -158,8 +160,8 @@ module _ (c : Collector) (area o : List ℕ) (P : Passes c) (z : length area ≡
   number-by n S B s fair w none q e (inr m) = let T = taken o in is-67 n S B (Whole o) (Stopped c area o) s fair w (e ∙ m) (stopped-by (T .behind) (T .records) m (T .rest) q)
   number-by n S B s fair w (some r) q e m = is-0 n S B (Whole o) (Stopped c area o) s fair w e (λ t. impossible (let y : some r ≡ none = sym q ∙ reaches t .1 in cc))
 
-number-through : (c : Collector) (area o : List ℕ) (n : ℕ) → n ≡ courseOf (c .receiver) (slotsOf c) area o .number
-    → n ≡ reached (play (c .receiver) (slotsOf c) area (readRecords o .front) .said) (readRecords o .stop)
+number-through : (c : Collector) (area o : List ℕ) (n : ℕ) → n ≡ courseOf (c .edition) (c .receiver) (slotsOf c) area o .number
+    → n ≡ reached (play (c .edition) (c .receiver) (slotsOf c) area (readRecords o .front) .said) (readRecords o .stop)
 unfolding courseOf
 number-through c area o n e = e
 
@@ -181,27 +183,27 @@ replay-numbers c o report area r report′ area′ A h = by (way c report area o
         let R = ready-of c report area e in
         let P : Passes c = record { receiver = record { left = R .receiver; head = A .head; store = A .store }; slots = R .slots } in
         let w = whole-is o u in
-        number-by c area o P (b .0 .1) (r .refused) (Sized report area) (Broken c) (b .0) (b .1) w (play (c .receiver) (slotsOf c) area (readRecords o .front) .said) refl
+        number-by c area o P (b .0 .1) (r .refused) (Sized report area) (Broken c) (b .0) (b .1) w (play (c .edition) (c .receiver) (slotsOf c) area (readRecords o .front) .said) refl
         (number-through c area o (r .refused) (number-is q)) (whole-stop (readRecords o .stop) (w .0) o (readRecords o .front) (w .1) (taken o))
 
 -- ---- what it changes
-played-same : (r : Played) (n k : ℕ) (b : Bool) (c : Collector) → r .refused ≡ n → r .eaten ≡ k → r .reported ≡ b → r .state .receiver ≡ c .receiver → slotsOf (r .state) ≡ slotsOf c
+played-same : (r : Played) (n k : ℕ) (b : Bool) (c : Collector) → r .refused ≡ n → r .eaten ≡ k → r .reported ≡ b → r .state .edition ≡ c .edition → r .state .receiver ≡ c .receiver → slotsOf (r .state) ≡ slotsOf c
     → r ≡ record { refused = n; eaten = k; reported = b; state = c }
-played-same r n k b c p q s v t =
+played-same r n k b c p q s d v t =
     let u = view-one (r .state .slots) (c .slots) t in
-    λ i. record { refused = p i; eaten = q i; reported = s i; state = record { receiver = v i; slots = u i } }
+    λ i. record { refused = p i; eaten = q i; reported = s i; state = record { edition = d i; receiver = v i; slots = u i } }
 
-barred-keeps : (m : ℕ) (c : Collector) (report area : List ℕ) (r : Played) (report′ area′ : List ℕ) → Comes (barred m c area) report r report′ area′
+barred-keeps : (m : ℕ) (c : Collector) (report area : List ℕ) (r : Played) (report′ area′ : List ℕ) → Comes (c .edition) (barred m c area) report r report′ area′
     → (r ≡ record { refused = r .refused; eaten = 0; reported = false; state = c }) × (report′ ≡ report) × (area′ ≡ area)
 barred-keeps m c report area r report′ area′ C =
-    (played-same r (r .refused) 0 false c refl (C .eaten) (C .reported) (C .receiver) (C .slots), C .reportAfter, C .areaAfter)
+    (played-same r (r .refused) 0 false c refl (C .eaten) (C .reported) (C .edition) (C .receiver) (C .slots), C .reportAfter, C .areaAfter)
 
 -- what goes through gives 0 or 67
-goes-number : (c : Collector) (area o : List ℕ) → length o % recordSize ≡ 0 → (courseOf (c .receiver) (slotsOf c) area o .number ≡ 0) ⊎ (courseOf (c .receiver) (slotsOf c) area o .number ≡ 67)
+goes-number : (c : Collector) (area o : List ℕ) → length o % recordSize ≡ 0 → (courseOf (c .edition) (c .receiver) (slotsOf c) area o .number ≡ 0) ⊎ (courseOf (c .edition) (c .receiver) (slotsOf c) area o .number ≡ 67)
 unfolding courseOf
 goes-number c area o u =
     let w = whole-is o u in
-    by (play (c .receiver) (slotsOf c) area (readRecords o .front) .said) (whole-stop (readRecords o .stop) (w .0) o (readRecords o .front) (w .1) (taken o))
+    by (play (c .edition) (c .receiver) (slotsOf c) area (readRecords o .front) .said) (whole-stop (readRecords o .stop) (w .0) o (readRecords o .front) (w .1) (taken o))
   where
     by : (x : Option (List ℕ)) → (readRecords o .stop ≡ 0) ⊎ (readRecords o .stop ≡ 67) → (reached x (readRecords o .stop) ≡ 0) ⊎ (reached x (readRecords o .stop) ≡ 67)
     by none m = m
@@ -241,11 +243,11 @@ stop-silent none n e = refl
 stop-silent (some r) n e = absurd (omega arith)
 
 module _ (c : Collector) (o report area : List ℕ) (r : Played) (report′ area′ : List ℕ) (R : Ready (c .receiver) (slotsOf c) area)
-    (C : Comes (courseOf (c .receiver) (slotsOf c) area o) report r report′ area′) where
+    (C : Comes (c .edition) (courseOf (c .edition) (c .receiver) (slotsOf c) area o) report r report′ area′) where
   abbrev left : Answered
-  left = play (c .receiver) (slotsOf c) area (readRecords o .front)
+  left = play (c .edition) (c .receiver) (slotsOf c) area (readRecords o .front)
 
-  comes-by : Comes (byFront left (readRecords o .stop)) report r report′ area′
+  comes-by : Comes (c .edition) (byFront left (readRecords o .stop)) report r report′ area′
   unfolding courseOf
   comes-by = C
 
@@ -262,7 +264,7 @@ module _ (c : Collector) (o report area : List ℕ) (r : Played) (report′ area
   eats =
       let E = play-eats (readRecords o .front) (c, area) R in
       let q : seen (r .state, area′) ≡ (left .state, left .slots, left .area) = rw (comes-by .receiver, comes-by .slots, comes-by .areaAfter) in
-      let same : E .0 ≡ (r .state, area′) = seen-one (E .0) (r .state, area′) (sym (q ∙ E .2)) in
+      let same : E .0 ≡ (r .state, area′) = seen-one (E .0) (r .state, area′) (E .2 .0 ∙ sym (comes-by .edition)) (sym (q ∙ E .2 .1)) in
       rw (comes-by .eaten, ← said-is, ← same) (E .1)
 
   changes : ReplayChanges c o report area r report′ area′
@@ -275,9 +277,9 @@ module _ (c : Collector) (o report area : List ℕ) (r : Played) (report′ area
         are = T .records;
         ends = rest-behind (T .rest);
         leaves = eats;
-        most = rw (comes-by .eaten) (play-most f (c .receiver) (slotsOf c) area);
-        some = λ l. rw (comes-by .eaten) (play-some f (c .receiver) (slotsOf c) area l);
-        all = λ e. (comes-by .eaten ∙ play-all f (c .receiver) (slotsOf c) area (silent e), comes-by .reportAfter ∙ ap (λ (x : Option (List ℕ)). written x report) (silent e));
+        most = rw (comes-by .eaten) (play-most (c .edition) f (c .receiver) (slotsOf c) area);
+        some = λ l. rw (comes-by .eaten) (play-some (c .edition) f (c .receiver) (slotsOf c) area l);
+        all = λ e. (comes-by .eaten ∙ play-all (c .edition) f (c .receiver) (slotsOf c) area (silent e), comes-by .reportAfter ∙ ap (λ (x : Option (List ℕ)). written x report) (silent e));
         over = λ n e. (
             let z : stop ≡ 0 = sym (comes-by .refused ∙ ap (λ (x : Option (List ℕ)). reached x stop) (silent e)) ∙ n in
             rest-none (subst (λ (k : ℕ). Rest k (T .behind)) z (T .rest)));
@@ -304,16 +306,16 @@ replay-by-position c area P z run e o = Replaying.replay-by-position c area P z 
 
 pub replay-any-part : ReplayAnyPart
 replay-any-part p c report area lent run behind r report′ area′ e k b h w =
-    (w .0, call lent run (record { behind = behind; report = report; report′ = report′; answer = r; ends = b; sixteen = k; promise = h; ate = refl; says = refl; leaves = refl }) (w .1), w .2, w .3)
+    (w .0, call lent run (record { behind = behind; report = report; report′ = report′; answer = r; ends = b; sixteen = k; promise = h; ate = refl; says = refl; leaves = refl }) (w .1), w .2, w .3, w .4)
 
 pub replay-can-be-offered : ReplayCanBeOffered
 replay-can-be-offered = Replaying.can-be-replayed
 
 pub replay-worked : ReplayWorked
-replay-worked report area r report′ area′ k z h =
-    let said = Examples.whole-said report area k z in (
-      h .refused ∙ Examples.whole-number report area k z,
-      h .eaten ∙ Examples.whole-eaten report area k z,
+replay-worked d report area r report′ area′ k z h =
+    let said = Examples.whole-said d report area k z in (
+      h .refused ∙ Examples.whole-number d report area k z,
+      h .eaten ∙ Examples.whole-eaten d report area k z,
       h .reported ∙ ap saidSo said,
       h .reportAfter ∙ ap (λ (x : Option (List ℕ)). written x report) said,
     )
@@ -326,10 +328,10 @@ abbrev hushReport : List ℕ
 hushReport = 0x02 ∷ 0x04 ∷ 0 ∷ 0 ∷ 0 ∷ 0 ∷ 0 ∷ 0 ∷ 0 ∷ 0 ∷ 0 ∷ 0 ∷ 0 ∷ 0 ∷ 0 ∷ 0 ∷ []
 
 abbrev start : Receiver
-start = freshCollector .receiver
+start = freshOf
 
 abbrev free : List (Messages.Slot Key)
-free = slotsOf freshCollector
+free = view fresh
 
 abbrev toPreamble : Receiver
 toPreamble = feedFrom 0 start (0x55 ∷ []) .receiver
@@ -338,48 +340,48 @@ abbrev toHeader : Receiver
 toHeader = feedFrom 0 start (0x55 ∷ 0xFF ∷ []) .receiver
 
 -- what follows an order's own answer
-abbrev goOn : Answered → Run → Answered
-goOn d run = thenGo (d .said) d (play (d .state) (d .slots) (d .area) run)
+abbrev goOn : Edition → Answered → Run → Answered
+goOn edition d run = thenGo (d .said) d (play edition (d .state) (d .slots) (d .area) run)
 
-module _ (report area : List ℕ) (k : length report ≡ reportSize) (z : length area ≡ 65536) where
+module _ (edition : Edition) (report area : List ℕ) (k : length report ≡ reportSize) (z : length area ≡ 65536) where
   fit : (r : Receiver) → soundOf r ≡ true → Ready r free area
   fit r e = record { receiver = e; slots = fresh-passes; fits = eq-eqb (length area) 65536 z }
 
-  hush-first : one (trunk (octet 0x55)) start free area ≡ answer 1 none toPreamble free area
+  hush-first : one edition (trunk (octet 0x55)) start free area ≡ answer 1 none toPreamble free area
   unfolding one stepOf
-  hush-first = box-feed (fit start refl) (0x55 ∷ [])
+  hush-first = box-feed edition (fit start refl) (0x55 ∷ [])
 
-  hush-second : one (trunk (octet 0xFF)) toPreamble free area ≡ answer 1 none toHeader free area
+  hush-second : one edition (trunk (octet 0xFF)) toPreamble free area ≡ answer 1 none toHeader free area
   unfolding one stepOf
-  hush-second = box-feed (fit toPreamble refl) (0xFF ∷ [])
+  hush-second = box-feed edition (fit toPreamble refl) (0xFF ∷ [])
 
-  hush-third : one (trunk silence) toHeader free area .said ≡ some hushReport
+  hush-third : one edition (trunk silence) toHeader free area .said ≡ some hushReport
   unfolding one stepOf silenceOf stillOf reportOctets digits
   hush-third = refl
 
   abbrev hushRun : Run
   hushRun = trunk silence ∷ forget 7 ∷ []
 
-  hush-play : play start free area (trunk (octet 0x55) ∷ trunk (octet 0xFF) ∷ hushRun) ≡ more 1 (more 1 (play toHeader free area hushRun))
-  hush-play = ap (λ (d : Answered). goOn d (trunk (octet 0xFF) ∷ hushRun)) hush-first ∙ ap (λ (d : Answered). more 1 (goOn d hushRun)) hush-second
+  hush-play : play edition start free area (trunk (octet 0x55) ∷ trunk (octet 0xFF) ∷ hushRun) ≡ more 1 (more 1 (play edition toHeader free area hushRun))
+  hush-play = ap (λ (d : Answered). goOn edition d (trunk (octet 0xFF) ∷ hushRun)) hush-first ∙ ap (λ (d : Answered). more 1 (goOn edition d hushRun)) hush-second
 
-  hush-passed : playRefusal freshCollector report area hushRecords ≡ 0
+  hush-passed : playRefusal (freshCollector edition) report area hushRecords ≡ 0
   unfolding playRefusal feedRefusal
   hush-passed = rw (eq-eqb (length report) reportSize k, eq-eqb (length area) 65536 z)
 
-  hush-course : playing freshCollector report area hushRecords ≡ byFront (more 1 (more 1 (play toHeader free area hushRun))) 0
+  hush-course : playing (freshCollector edition) report area hushRecords ≡ byFront (more 1 (more 1 (play edition toHeader free area hushRun))) 0
   unfolding playing courseOf orderOf
   hush-course = rw hush-passed (ap (λ (d : Answered). byFront d 0) hush-play)
 
   abbrev hushed : Course
-  hushed = playing freshCollector report area hushRecords
+  hushed = playing (freshCollector edition) report area hushRecords
 
   hush-comes : (hushed .number ≡ 0) × (hushed .left .eaten ≡ 3) × (hushed .left .said ≡ some hushReport)
   hush-comes = rw (hush-course, hush-third) (refl, refl, refl)
 
 pub replay-silence-worked : ReplaySilenceWorked
-replay-silence-worked report area r report′ area′ k z h =
-    let q = hush-comes report area k z in (
+replay-silence-worked d report area r report′ area′ k z h =
+    let q = hush-comes d report area k z in (
       h .refused ∙ q .0,
       h .eaten ∙ q .1,
       h .reported ∙ ap saidSo (q .2),

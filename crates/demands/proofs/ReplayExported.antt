@@ -16,6 +16,7 @@ use Rattle.runs.specs.Run.Event.{octet, silence}
 use Rattle.runs.specs.Run.Order.{trunk, forget}
 use Rattle.runs.specs.Offered.Offer.{call}
 use Rattle.runs.specs.Offered.Made.{feed, still, free}
+use Rattle.apdu.specs.declared.Edition.{Edition}
 use Rattle.frames.specs.declared.Receiver.{Receiver}
 use Rattle.messages.specs.Slots as Messages
 use Rattle.rebuild.specs.declared.Key.{Key}
@@ -48,43 +49,43 @@ use Rattle.demands.proofs.Exported.Judged.{other, none as no-state, som
 use Rattle.demands.proofs.Replay.{is-60, is-59, contra, replay-numbers, replay-refused}
 
 -- ---- a state keeps its arrays, whatever is replayed
-one-shaped : (y : Order) (c : Collector) (area : List ℕ) → Shaped c → Shaped (stateOf (one y (c .receiver) (slotsOf c) area))
+one-shaped : (y : Order) (c : Collector) (area : List ℕ) → Shaped c → Shaped (stateOf (c .edition) (one (c .edition) y (c .receiver) (slotsOf c) area))
 unfolding one
 one-shaped (trunk (octet x)) c area f =
-    subst (λ (d : Answered). Shaped (stateOf d)) (feeding-box c blank area (x ∷ []) sixteen) (feeding-shaped c f blank area (x ∷ []))
+    subst (λ (d : Answered). Shaped (stateOf (c .edition) d)) (feeding-box c blank area (x ∷ []) sixteen) (feeding-shaped c f blank area (x ∷ []))
 one-shaped (trunk silence) c area f =
-    subst (λ (d : Answered). Shaped (stateOf d)) (stilling-box c blank area sixteen) (stilling-shaped c f blank)
+    subst (λ (d : Answered). Shaped (stateOf (c .edition) d)) (stilling-box c blank area sixteen) (stilling-shaped c f blank)
 one-shaped (forget i) c area f = forgotten-shaped c f i
 
-one-kept : (y : Order) (r : Receiver) (s : List (Messages.Slot Key)) (area : List ℕ) → Shaped (stateBy r s) → Shaped (stateOf (one y r s area))
-one-kept y r s area f = subst (λ (t : List (Messages.Slot Key)). Shaped (stateOf (one y r t area))) (view-unview s) (one-shaped y (stateBy r s) area f)
+one-kept : (edition : Edition) (y : Order) (r : Receiver) (s : List (Messages.Slot Key)) (area : List ℕ) → Shaped (stateBy edition r s) → Shaped (stateOf edition (one edition y r s area))
+one-kept edition y r s area f = subst (λ (t : List (Messages.Slot Key)). Shaped (stateOf edition (one edition y r t area))) (view-unview s) (one-shaped y (stateBy edition r s) area f)
 
-go-shaped : (x : Option (List ℕ)) (d e : Answered) → Shaped (stateOf d) → Shaped (stateOf e) → Shaped (stateOf (thenGo x d e))
-go-shaped none d e f g = g
-go-shaped (some p) d e f g = f
+go-shaped : (edition : Edition) (x : Option (List ℕ)) (d e : Answered) → Shaped (stateOf edition d) → Shaped (stateOf edition e) → Shaped (stateOf edition (thenGo x d e))
+go-shaped edition none d e f g = g
+go-shaped edition (some p) d e f g = f
 
-play-shaped : (run : Run) (r : Receiver) (s : List (Messages.Slot Key)) (area : List ℕ) → Shaped (stateBy r s) → Shaped (stateOf (play r s area run))
-play-shaped [] r s area f = f
-play-shaped (y ∷ run) r s area f =
-    let d = one y r s area in
-    let g : Shaped (stateOf d) = one-kept y r s area f in
-    go-shaped (d .said) d (play (d .state) (d .slots) (d .area) run) g (play-shaped run (d .state) (d .slots) (d .area) g)
+play-shaped : (edition : Edition) (run : Run) (r : Receiver) (s : List (Messages.Slot Key)) (area : List ℕ) → Shaped (stateBy edition r s) → Shaped (stateOf edition (play edition r s area run))
+play-shaped edition [] r s area f = f
+play-shaped edition (y ∷ run) r s area f =
+    let d = one edition y r s area in
+    let g : Shaped (stateOf edition d) = one-kept edition y r s area f in
+    go-shaped edition (d .said) d (play edition (d .state) (d .slots) (d .area) run) g (play-shaped edition run (d .state) (d .slots) (d .area) g)
 
-playing-shaped : (c : Collector) (report area o : List ℕ) → Shaped (stateBy (c .receiver) (slotsOf c)) → Shaped (stateOf (playing c report area o .left))
+playing-shaped : (c : Collector) (report area o : List ℕ) → Shaped (stateBy (c .edition) (c .receiver) (slotsOf c)) → Shaped (stateOf (c .edition) (playing c report area o .left))
 unfolding playing courseOf
 playing-shaped c report area o f =
-    pick-case (λ (w : Course). Shaped (stateOf (w .left))) (eqb (playRefusal c report area o) 0) (play-shaped (readRecords o .front) (c .receiver) (slotsOf c) area f) f
+    pick-case (λ (w : Course). Shaped (stateOf (c .edition) (w .left))) (eqb (playRefusal c report area o) 0) (play-shaped (c .edition) (readRecords o .front) (c .receiver) (slotsOf c) area f) f
 
 -- ---- one answer
 loaded : (state report area : List ℕ) → feedBar state report area ≡ 0 → loadOf state .refused ≡ 0
 unfolding feedBar bar
 loaded state report area z = pick-so (both (eqb (length report) reportSize) (sized area)) (loadOf state .refused) 60 0 (λ e. omega arith) z .1
 
-held-shaped : (state : List ℕ) → Octets state → loadOf state .refused ≡ 0 → Shaped (stateBy (inside state .receiver) (slotsOf (inside state)))
+held-shaped : (state : List ℕ) → Octets state → loadOf state .refused ≡ 0 → Shaped (stateBy (inside state .edition) (inside state .receiver) (slotsOf (inside state)))
 held-shaped state os z =
     let c = inside state in
     let f = fits-shaped (loads-only state c os (accepted state z) .0) in
-    subst Shaped (ap (λ (t : Slots). record { receiver = c .receiver; slots = t }) (sym (unview-view (c .slots)))) f
+    subst Shaped (ap (λ (t : Slots). record { edition = c .edition; receiver = c .receiver; slots = t }) (sym (unview-view (c .slots)))) f
 
 -- its one answer
 pub replayed : (state records report area : List ℕ) → Octets state
@@ -119,7 +120,7 @@ pub replay-own : (state : List ℕ) → Own state → {report area o : List ℕ}
 unfolding replayLeft
 replay-own state own {report} {area} {o} {state′ = state′} y =
     by-test (eqb (feedBar state report area) 0)
-    (λ z. own-next state′ (stateOf (cameTo state report area o .left)) (y .stateAfter ∙ rw z) (y .again (eqb-true _ _ z)))
+    (λ z. own-next state′ (stateOf (inside state .edition) (cameTo state report area o .left)) (y .stateAfter ∙ rw z) (y .again (eqb-true _ _ z)))
     (λ z. own-same state state′ (y .stateAfter ∙ rw z) own)
 
 -- ---- the numbers by those of the call below

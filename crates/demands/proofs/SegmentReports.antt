@@ -13,6 +13,7 @@ use Rattle.octets.specs.Reading.{oct}
 use Rattle.npdu.specs.Reading.{readNpdu}
 use Rattle.apdu.specs.Reading.{readApdu}
 use Rattle.apdu.specs.Fields.{paramsAt}
+use Rattle.apdu.specs.declared.Edition.{Edition}
 use Rattle.apdu.specs.declared.Answer as Apdu
 use Rattle.apdu.specs.declared.Answer.the-variants.{Good, Refused}
 use Rattle.apdu.specs.declared.Pdu.{Pdu}
@@ -39,13 +40,13 @@ use Rattle.demands.proofs.FrameContent.{parts-told, parts-seg, parts-pa
 use Rattle.demands.proofs.FrameReports.{report-laid, unsegmented-none}
 
 -- ---- the segment that a good frame carries
-module _ (h d : List ℕ) where
+module _ (edition : Edition) (h d : List ℕ) where
   -- a content that is no APDU with SEG carries none
-  none-here : {x : Content} {g : Segment Key} {P : Type 0} → contentOf (heardOf h) d ≡ x → segmentIn (heardOf h) x ≡ none → segmentAt (good h d) ≡ some g → P
-  none-here e z q = let k = sym z ∙ sym (segment-by h d e) ∙ q in impossible (cc)
+  none-here : {x : Content} {g : Segment Key} {P : Type 0} → contentOf (heardOf edition h) d ≡ x → segmentIn (heardOf edition h) x ≡ none → segmentAt edition (good h d) ≡ some g → P
+  none-here e z q = let k = sym z ∙ sym (segment-by edition h d e) ∙ q in impossible (cc)
 
-  not-seg : {a t : List ℕ} {g : Segment Key} {P : Type 0} (p : Pdu) → Carries h d a p t → segIn p ≡ false → segmentAt (good h d) ≡ some g → P
-  not-seg {a} {t} p c e q = let k = sym (unsegmented-none h d a t p c e) ∙ q in impossible (cc)
+  not-seg : {a t : List ℕ} {g : Segment Key} {P : Type 0} (p : Pdu) → Carries edition h d a p t → segIn p ≡ false → segmentAt edition (good h d) ≡ some g → P
+  not-seg {a} {t} p c e q = let k = sym (unsegmented-none edition h d a t p c e) ∙ q in impossible (cc)
 
   -- the one that a PDU with SEG is
   abbrev made : Pdu → List ℕ → List ℕ → Segment Key
@@ -58,12 +59,12 @@ module _ (h d : List ℕ) where
         octets = t;
       }
 
-  made-of : {a t : List ℕ} (p : Pdu) → Carries h d a p t → segIn p ≡ true → segmentAt (good h d) ≡ some (made p a t)
+  made-of : {a t : List ℕ} (p : Pdu) → Carries edition h d a p t → segIn p ≡ true → segmentAt edition (good h d) ≡ some (made p a t)
   made-of {a} {t} p c e =
-      segment-by h d (is-message h d c) ∙ given-true (partsOf p (oct a 0) .segment .seg) _ _ (parts-seg p (oct a 0) ∙ e)
+      segment-by edition h d (is-message edition h d c) ∙ given-true (partsOf p (oct a 0) .segment .seg) _ _ (parts-seg p (oct a 0) ∙ e)
       ∙ rw (parts-told p (oct a 0), parts-params p (oct a 0), c .read .1)
 
-  by-pdu : {a t : List ℕ} {g : Segment Key} (p : Pdu) → Carries h d a p t → segmentAt (good h d) ≡ some g → CarriesSegment h d a g
+  by-pdu : {a t : List ℕ} {g : Segment Key} (p : Pdu) → Carries edition h d a p t → segmentAt edition (good h d) ≡ some g → CarriesSegment edition h d a g
   unfolding partsOf
   by-pdu {a} {t} (Request p) c q =
       by-test (p .segment .seg) (λ e. let k = sym q ∙ made-of (Request p) c e in request p t c e (cc)) (λ e. not-seg (Request p) c e q)
@@ -76,87 +77,87 @@ module _ (h d : List ℕ) where
   by-pdu (Reject p) c q = not-seg (Reject p) c refl q
   by-pdu (Abort p) c q = not-seg (Abort p) c refl q
 
-  by-read : {a : List ℕ} {g : Segment Key} (y : Apdu.Answer) → readApdu a ≡ y → Behind h d false a → segmentAt (good h d) ≡ some g → CarriesSegment h d a g
-  by-read (Refused n) e k q = none-here (is-bad h d k e) refl q
+  by-read : {a : List ℕ} {g : Segment Key} (y : Apdu.Answer) → readApdu edition a ≡ y → Behind h d false a → segmentAt edition (good h d) ≡ some g → CarriesSegment edition h d a g
+  by-read (Refused n) e k q = none-here (is-bad edition h d k e) refl q
   by-read {a} (Good p) e k q = by-pdu {t = drop (paramsAt p) a} p (record { behind = k; read = (e, refl) }) q
 
-  by-header : {g : Segment Key} → FiveOrSix h → segmentAt (good h d) ≡ some g → CarriesSegment h d (drop (readNpdu d .next) d) g
+  by-header : {g : Segment Key} → FiveOrSix h → segmentAt edition (good h d) ≡ some g → CarriesSegment edition h d (drop (readNpdu d .next) d) g
   by-header t q =
       by-test (eqb (readNpdu d .refused) 0)
       (λ e. let r = eqb-true (readNpdu d .refused) 0 e in
       by-test (readNpdu d .head .message)
-      (λ m. none-here (is-network h d (behind h d true t r m)) refl q)
-      (λ m. by-read (readApdu (drop (readNpdu d .next) d)) refl (behind h d false t r m) q))
-      (λ e. none-here (is-refused h d t (eqb-false (readNpdu d .refused) 0 e)) refl q)
+      (λ m. none-here (is-network edition h d (behind edition h d true t r m)) refl q)
+      (λ m. by-read (readApdu edition (drop (readNpdu d .next) d)) refl (behind edition h d false t r m) q))
+      (λ e. none-here (is-refused edition h d t (eqb-false (readNpdu d .refused) 0 e)) refl q)
 
-  carried : {g : Segment Key} → segmentAt (good h d) ≡ some g → CarriesSegment h d (drop (readNpdu d .next) d) g
-  carried q = ⊎-elim (λ t. by-header t q) (λ n. none-here (is-other h d n) refl q) (five-or-six h d)
+  carried : {g : Segment Key} → segmentAt edition (good h d) ≡ some g → CarriesSegment edition h d (drop (readNpdu d .next) d) g
+  carried q = ⊎-elim (λ t. by-header t q) (λ n. none-here (is-other edition h d n) refl q) (five-or-six edition h d)
 
-  pub carried-is : {a : List ℕ} {g : Segment Key} → CarriesSegment h d a g → segmentAt (good h d) ≡ some g
+  pub carried-is : {a : List ℕ} {g : Segment Key} → CarriesSegment edition h d a g → segmentAt edition (good h d) ≡ some g
   unfolding partsOf
   carried-is (request p t c e q) = made-of (Request p) c e ∙ ap some (sym q)
   carried-is (complex-ack p t c e q) = made-of (ComplexAck p) c e ∙ ap some (sym q)
 
 pub segment-is : SegmentIs
-segment-is h d g = (λ q. (drop (readNpdu d .next) d, carried h d q), λ k. carried-is h d (k .1))
+segment-is edition h d g = (λ q. (drop (readNpdu d .next) d, carried edition h d q), λ k. carried-is edition h d (k .1))
 
 -- ---- its report, by the answer
 abbrev named : List ℕ → Segment Key → Told
 named a g = record { first = oct a 0; invoke = g .key .invoke; choice = g .choice }
 
-module _ (h d a : List ℕ) (g : Segment Key) where
+module _ (edition : Edition) (h d a : List ℕ) (g : Segment Key) where
   -- the content is an APDU that says what the segment says
   record Says (m : Parts) : Type 0 where
-    content : contentOf (heardOf h) d ≡ message (routeOf (readNpdu d .head)) m a
+    content : contentOf (heardOf edition h) d ≡ message (routeOf (readNpdu d .head)) m a
     names : m .apdu ≡ named a g
 
-  says : CarriesSegment h d a g → (m : Parts) × Says m
+  says : CarriesSegment edition h d a g → (m : Parts) × Says m
   says (request p t c e q) =
-      (partsOf (Request p) (oct a 0), record { content = is-message h d c; names = parts-told (Request p) (oct a 0) ∙ ap (named a) (sym q) })
+      (partsOf (Request p) (oct a 0), record { content = is-message edition h d c; names = parts-told (Request p) (oct a 0) ∙ ap (named a) (sym q) })
   says (complex-ack p t c e q) =
-      (partsOf (ComplexAck p) (oct a 0), record { content = is-message h d c; names = parts-told (ComplexAck p) (oct a 0) ∙ ap (named a) (sym q) })
+      (partsOf (ComplexAck p) (oct a 0), record { content = is-message edition h d c; names = parts-told (ComplexAck p) (oct a 0) ∙ ap (named a) (sym q) })
 
   module _ (area : List ℕ) {m : Parts} (k : Says m) where
-    refused-said : (x : ℕ) → answeredAt (good h d) (refused x) area ≡ kind6 h x
-    refused-said x = rw (k .content) (report-laid (refusal (heardOf h .frame) x))
+    refused-said : (x : ℕ) → answeredAt edition (good h d) (refused x) area ≡ kind6 h x
+    refused-said x = rw (k .content) (report-laid (refusal (heardOf edition h .frame) x))
 
-    held-said : (i n : ℕ) → answeredAt (good h d) (taken i n) area ≡ kind4 h (oct a 0) (g .key .invoke) (g .choice) i n
-    held-said i n = rw (k .content, k .names) (report-laid (segmentTaken (heardOf h .frame) (named a g) i n))
+    held-said : (i n : ℕ) → answeredAt edition (good h d) (taken i n) area ≡ kind4 h (oct a 0) (g .key .invoke) (g .choice) i n
+    held-said i n = rw (k .content, k .names) (report-laid (segmentTaken (heardOf edition h .frame) (named a g) i n))
 
-    complete-said : (i n : ℕ) → answeredAt (good h d) (completed i n) area
-        ≡ reportOctets (byTags (itemsOf (part (room * i) n area)) (complete (heardOf h .frame) (named a g) i n))
+    complete-said : (i n : ℕ) → answeredAt edition (good h d) (completed i n) area
+        ≡ reportOctets (byTags (itemsOf (part (room * i) n area)) (complete (heardOf edition h .frame) (named a g) i n))
     complete-said i n = rw (k .content, k .names)
 
     module _ (i n : ℕ) where
       whole-said : {x : ℕ} → counted (itemsOf (part (room * i) n area)) ≡ Items x
-          → answeredAt (good h d) (completed i n) area ≡ kind5 h (oct a 0) (g .key .invoke) (g .choice) i n
+          → answeredAt edition (good h d) (completed i n) area ≡ kind5 h (oct a 0) (g .key .invoke) (g .choice) i n
       whole-said e =
-          complete-said i n ∙ sym (tags-put (itemsOf (part (room * i) n area)) (complete (heardOf h .frame) (named a g) i n) refl e refl)
-          ∙ report-laid (complete (heardOf h .frame) (named a g) i n)
+          complete-said i n ∙ sym (tags-put (itemsOf (part (room * i) n area)) (complete (heardOf edition h .frame) (named a g) i n) refl e refl)
+          ∙ report-laid (complete (heardOf edition h .frame) (named a g) i n)
 
-      bad-said : {x : ℕ} → counted (itemsOf (part (room * i) n area)) ≡ Tally.Refused x → answeredAt (good h d) (completed i n) area ≡ kind6 h x
+      bad-said : {x : ℕ} → counted (itemsOf (part (room * i) n area)) ≡ Tally.Refused x → answeredAt edition (good h d) (completed i n) area ≡ kind6 h x
       bad-said {x} e =
-          complete-said i n ∙ sym (tags-turn (itemsOf (part (room * i) n area)) (complete (heardOf h .frame) (named a g) i n) refl e refl refl)
-          ∙ report-laid (refusal (heardOf h .frame) x)
+          complete-said i n ∙ sym (tags-turn (itemsOf (part (room * i) n area)) (complete (heardOf edition h .frame) (named a g) i n) refl e refl refl)
+          ∙ report-laid (refusal (heardOf edition h .frame) x)
 
-      by-its-tags : {o : List ℕ} (y : Tally) → counted (itemsOf (part (room * i) n area)) ≡ y → answeredAt (good h d) (completed i n) area ≡ o
+      by-its-tags : {o : List ℕ} (y : Tally) → counted (itemsOf (part (room * i) n area)) ≡ y → answeredAt edition (good h d) (completed i n) area ≡ o
           → SegmentReport h a g (completed i n) area o
       by-its-tags (Items x) e q = SegmentReport.complete i n x refl e (sym q ∙ whole-said e)
       by-its-tags (Tally.Refused x) e q = SegmentReport.bad-tags i n x refl e (sym q ∙ bad-said e)
 
-    answer-reported : {o : List ℕ} (w : Answer) → answeredAt (good h d) w area ≡ o → SegmentReport h a g w area o
+    answer-reported : {o : List ℕ} (w : Answer) → answeredAt edition (good h d) w area ≡ o → SegmentReport h a g w area o
     answer-reported (refused x) q = SegmentReport.not-taken x refl (sym q ∙ refused-said x)
     answer-reported (taken i n) q = SegmentReport.held i n refl (sym q ∙ held-said i n)
     answer-reported (completed i n) q = by-its-tags i n (counted (itemsOf (part (room * i) n area))) refl q
 
-    at-answer : {w v : Answer} {o : List ℕ} → w ≡ v → answeredAt (good h d) v area ≡ o → answeredAt (good h d) w area ≡ o
+    at-answer : {w v : Answer} {o : List ℕ} → w ≡ v → answeredAt edition (good h d) v area ≡ o → answeredAt edition (good h d) w area ≡ o
     at-answer e q = rw e q
 
-    answer-is : {o : List ℕ} {w : Answer} → SegmentReport h a g w area o → answeredAt (good h d) w area ≡ o
+    answer-is : {o : List ℕ} {w : Answer} → SegmentReport h a g w area o → answeredAt edition (good h d) w area ≡ o
     answer-is (SegmentReport.not-taken x e q) = at-answer e (refused-said x ∙ sym q)
     answer-is (SegmentReport.held i n e q) = at-answer e (held-said i n ∙ sym q)
     answer-is (SegmentReport.complete i n x e y q) = at-answer e (whole-said i n y ∙ sym q)
     answer-is (SegmentReport.bad-tags i n x e y q) = at-answer e (bad-said i n y ∙ sym q)
 
 pub segment-reported : SegmentReported
-segment-reported h d a g c w area o = let k = says h d a g c .1 in (λ q. answer-reported h d a g area k w q, λ r. answer-is h d a g area k r)
+segment-reported edition h d a g c w area o = let k = says edition h d a g c .1 in (λ q. answer-reported edition h d a g area k w q, λ r. answer-is edition h d a g area k r)

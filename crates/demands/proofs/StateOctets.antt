@@ -1,5 +1,6 @@
 -- States, octet by octet: by computation.
 use mathlib.Core.Path.{refl}
+use Rattle.apdu.specs.declared.Edition.the-variants.{First, Later}
 use Rattle.frames.specs.declared.Phase.{Phase}
 use Rattle.frames.specs.declared.Phase.the-variants.{Hunting, Preamble, Header, Data}
 use Rattle.collector.specs.Calls.{freshCollector}
@@ -20,11 +21,14 @@ state-octets =
       laid = refl;
       size = refl;
       store = refl;
+      edition = refl;
       slots = refl;
       back = loads (Data 1029);
       hunting = (refl, loads Hunting);
       preamble = (refl, loads Preamble);
       header = (refl, loads (Header 9));
       fresh = refl;
-      fresh-back = shaped-loads freshCollector (record { head = refl; store = refl; four = refl });
+      fresh-back = shaped-loads (freshCollector First) (record { head = refl; store = refl; four = refl });
+      fresh-later = refl;
+      fresh-later-back = shaped-loads (freshCollector Later) (record { head = refl; store = refl; four = refl });
     }

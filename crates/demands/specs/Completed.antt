@@ -13,6 +13,7 @@ use Rattle.octets.specs.Numbers.{valueAt}
 use Rattle.runs.specs.Run.{Event, Run, wire, octs, Trace, ended}
 use Rattle.runs.specs.Run.Event.{octet}
 use Rattle.runs.specs.Run.Order.{trunk, forget}
+use Rattle.apdu.specs.declared.Edition.{Edition}
 use Rattle.trunk.specs.Reading.{Out, heldOf, readFrom}
 use Rattle.items.specs.Reading.{itemsOf}
 use Rattle.items.specs.Reading.Out.{bad}
@@ -65,10 +66,10 @@ abbrev pub reportAt : {R : Type 0} → ℕ → List (ℕ × R) → Option R
 reportAt p [] = none
 reportAt p (x ∷ rs) = pick (eqb (x .0) p) (some (x .1)) (reportAt p rs)
 
--- the segment that ends at a place, if one does
-abbrev pub segmentEnding : Option Out → Option (Segment Key)
-segmentEnding none = none
-segmentEnding (some o) = segmentAt o
+-- the segment that ends at a place, if one does, read by an edition
+abbrev pub segmentEnding : Edition → Option Out → Option (Segment Key)
+segmentEnding e none = none
+segmentEnding e (some o) = segmentAt e o
 
 abbrev pub heardEntry : Option (Segment Key) → Option (List ℕ) → Log Key → Log Key
 heardEntry none report log = log
@@ -77,14 +78,14 @@ heardEntry (some g) (some report) log = said g (answerIn report) ∷ log
 
 -- The history that is heard, latest first: the segments that end on the trunk, read off the recording, each with what the report at its place says of it.
 -- t is the reading of the whole trunk, p the place at which the run begins.
-abbrev pub heardLog : {M : Type 0} → Trace Out M → List (ℕ × List ℕ) → ℕ → Run → Log Key → Log Key
-heardLog t reports p [] log = log
-heardLog t reports p (trunk e ∷ run) log = heardLog t reports (p + 1) run (heardEntry (segmentEnding (ended p t)) (reportAt p reports) log)
-heardLog t reports p (forget i ∷ run) log = heardLog t reports p run log
+abbrev pub heardLog : {M : Type 0} → Edition → Trace Out M → List (ℕ × List ℕ) → ℕ → Run → Log Key → Log Key
+heardLog d t reports p [] log = log
+heardLog d t reports p (trunk e ∷ run) log = heardLog d t reports (p + 1) run (heardEntry (segmentEnding d (ended p t)) (reportAt p reports) log)
+heardLog d t reports p (forget i ∷ run) log = heardLog d t reports p run log
 
--- from the state c
+-- from the state c, by its edition
 abbrev pub heardFrom : Collector → Run → List (ℕ × List ℕ) → Log Key
-heardFrom c run reports = heardLog (readFrom (c .receiver) (wire run)) reports (length (heldOf (c .receiver))) run []
+heardFrom c run reports = heardLog (c .edition) (readFrom (c .receiver) (wire run)) reports (length (heldOf (c .receiver))) run []
 
 -- A run up to a place of the trunk, from the state c: front, and then x at that place; its reports, and the message area behind it.
 module _ (c : Collector) (front : Run) (x : Event) where
@@ -115,14 +116,14 @@ module _ (c : Collector) (front : Run) (x : Event) where
     -- Of a report of kind 4 or 5: a segment ends at its place, its key is the one that the report names, and it has MOR or not.
     abbrev pub OfSegment : List ℕ → Bool → Type 0
     OfSegment report mor =
-        (g : Segment Key) × (segmentEnding (ended lastPlace (readFrom (c .receiver) (wire upTo))) ≡ some g) × (keyIn report ≡ g .key) × (g .mor ≡ mor)
+        (g : Segment Key) × (segmentEnding (c .edition) (ended lastPlace (readFrom (c .receiver) (wire upTo))) ≡ some g) × (keyIn report ≡ g .key) × (g .mor ≡ mor)
 
     pub record AsReported : Type 0 where
       pub with-mor : (report : List ℕ) → reportAt lastPlace reports ≡ some report → kindIn report ≡ 4 → OfSegment report true
       pub without-mor : (report : List ℕ) → reportAt lastPlace reports ≡ some report → kindIn report ≡ 5 → OfSegment report false
       pub complete : (report : List ℕ) → reportAt lastPlace reports ≡ some report → kindIn report ≡ 5 → Whole report
       pub bad-tags : (report : List ℕ) → reportAt lastPlace reports ≡ some report → kindIn report ≡ 6 → tagNumber (numberIn report) ≡ true
-          → (g : Segment Key) → segmentEnding (ended lastPlace (readFrom (c .receiver) (wire upTo))) ≡ some g → WholeButTags report g
+          → (g : Segment Key) → segmentEnding (c .edition) (ended lastPlace (readFrom (c .receiver) (wire upTo))) ≡ some g → WholeButTags report g
 
 -- ---- demand 3's last sentence, of reports: from a state that 59 passes and an area of 65,536 octets, however the run up to that place is offered
 abbrev pub CompletedAsReported : Type 0
@@ -139,8 +140,8 @@ abbrev pub CanBeLinked : Type 0
 CanBeLinked = (state : List ℕ) (c : Collector) (area : List ℕ) → Loads state c → Passes c → length area ≡ 65536 → (run : Run)
     → (h : Heard) × Linked (length (heldOf (c .receiver))) state area run h
 
--- ---- One run, worked, in which it is not empty: three frames on a fresh collector. The first opens slot 0 for a key that differs in the PDU type alone; the other two are a message of two
--- segments, of 4 and 3 octets, which goes to slot 1.
+-- ---- One run, worked, in which it is not empty: three frames on a fresh collector of any edition. The first opens slot 0 for a key that differs in the PDU type
+-- alone; the other two are a message of two segments, of 4 and 3 octets, which goes to slot 1.
 abbrev pub otherFrame : List ℕ
 otherFrame = 0x55 ∷ 0xFF ∷ 0x05 ∷ 0x21 ∷ 0x43 ∷ 0x00 ∷ 0x09 ∷ 0x3E ∷ 0x01 ∷ 0x04 ∷ 0x0C ∷ 0x05 ∷ 0x57 ∷ 0x00 ∷ 0x11 ∷ 0x0F ∷ 0x77 ∷ 0xDE ∷ 0x51 ∷ []
 
@@ -165,7 +166,7 @@ secondReport = 0x05 ∷ 0x00 ∷ 0x06 ∷ 0x21 ∷ 0x43 ∷ 0x38 ∷ 0x57 ∷ 0x
 
 -- however it is offered, the reports and their places are these, the message was begun in the run, and the seven octets of slot 1 are its segments' joined
 abbrev pub CompletedWorked : Type 0
-CompletedWorked = (area : List ℕ) → length area ≡ 65536 → (e : End) → Called 0 freshCollector area (workedFront ++ (trunk (octet 0x1C) ∷ [])) e
+CompletedWorked = (d : Edition) (area : List ℕ) → length area ≡ 65536 → (e : End) → Called 0 (freshCollector d) area (workedFront ++ (trunk (octet 0x1C) ∷ [])) e
     → (e .reports ≡ (18, otherReport) ∷ (39, firstReport) ∷ (59, secondReport) ∷ [])
-    × (begun keys (keyIn secondReport) (heardFrom freshCollector (workedFront ++ (trunk (octet 0x1C) ∷ [])) (e .reports)) ≡ true)
+    × (begun keys (keyIn secondReport) (heardFrom (freshCollector d) (workedFront ++ (trunk (octet 0x1C) ∷ [])) (e .reports)) ≡ true)
     × (part 16384 7 (e .area) ≡ 0x3E ∷ 0x44 ∷ 0x42 ∷ 0x39 ∷ 0x99 ∷ 0x9A ∷ 0x3F ∷ [])

@@ -21,6 +21,7 @@ use Rattle.npdu.specs.declared.Reading.{Reading}
 use Rattle.apdu.specs.Reading.{readApdu}
 use Rattle.apdu.specs.Layout as Header
 use Rattle.apdu.specs.Fault as HeaderFault
+use Rattle.apdu.specs.declared.Edition.{Edition}
 use Rattle.apdu.specs.declared.Pdu.{Pdu}
 use Rattle.apdu.specs.declared.Answer as Apdu
 use Rattle.items.specs.Grammar as Items
@@ -53,6 +54,7 @@ use Rattle.playback.specs.declared.Played.{Played}
 use Rattle.records.specs.Network.{npduSize, npduRecord, npduAt}
 use Rattle.records.specs.Application.{apduSize, apduAt}
 use Rattle.records.specs.Service.{serviceSize, serviceAt}
+use Rattle.state.specs.Edition.{editionOf}
 use Rattle.state.specs.Calls.{Saves}
 use Rattle.hitchbarley.specs.Trunk as Trunk
 use Rattle.hitchbarley.specs.Replay.{Replays}
@@ -152,12 +154,12 @@ pub record Contracts : Type 0 where
   pub npdu-write : (κ1 : Lft) (h : Npdu) (out out′ : RefT (List ℕ)) (r : Written)
       → Contract (npdu-write-call.Pre (κ1, tt) (h, (out, tt))) (npdu-write-call.Post (κ1, tt) (h, (out, tt)) r (h, (out′, tt)))
       (Laid (NetworkFault.faultOf h) (Network.encode h) (now out) r (now out′))
-  pub apdu-read : (κ1 : Lft) (s : RefT (List ℕ)) (r : Apdu.Answer)
-      → Contract (apdu-read-call.Pre (κ1, tt) (s, tt)) (apdu-read-call.Post (κ1, tt) (s, tt) r (s, tt))
-      (r ≡ readApdu (now s))
-  pub apdu-write : (κ1 : Lft) (p : Pdu) (out out′ : RefT (List ℕ)) (r : Written)
-      → Contract (apdu-write-call.Pre (κ1, tt) (p, (out, tt))) (apdu-write-call.Post (κ1, tt) (p, (out, tt)) r (p, (out′, tt)))
-      (Laid (HeaderFault.faultOf p) (Header.header p) (now out) r (now out′))
+  pub apdu-read : (κ1 : Lft) (e : Edition) (s : RefT (List ℕ)) (r : Apdu.Answer)
+      → Contract (apdu-read-call.Pre (κ1, tt) (e, (s, tt))) (apdu-read-call.Post (κ1, tt) (e, (s, tt)) r (e, (s, tt)))
+      (r ≡ readApdu e (now s))
+  pub apdu-write : (κ1 : Lft) (e : Edition) (p : Pdu) (out out′ : RefT (List ℕ)) (r : Written)
+      → Contract (apdu-write-call.Pre (κ1, tt) (e, (p, (out, tt)))) (apdu-write-call.Post (κ1, tt) (e, (p, (out, tt))) r (e, (p, (out′, tt))))
+      (Laid (HeaderFault.faultOf e p) (Header.header p) (now out) r (now out′))
   pub items-count : (κ1 : Lft) (s : RefT (List ℕ)) (r : Tally)
       → Contract (items-count-call.Pre (κ1, tt) (s, tt)) (items-count-call.Post (κ1, tt) (s, tt) r (s, tt))
       (r ≡ counted (itemsOf (now s)))
@@ -195,9 +197,9 @@ pub record Contracts : Type 0 where
   pub rebuild-forget : (t : Slots) (s : ℕ) (r : Freed)
       → Contract (rebuild-forget-call.Pre tt (t, (s, tt))) (rebuild-forget-call.Post tt (t, (s, tt)) r (t, (s, tt)))
       (Rebuild.Forgets t s r)
-  pub collector-fresh : (r : Collector)
-      → Contract (collector-fresh-call.Pre tt tt) (collector-fresh-call.Post tt tt r tt)
-      (r ≡ freshCollector)
+  pub collector-fresh : (e : Edition) (r : Collector)
+      → Contract (collector-fresh-call.Pre tt (e, tt)) (collector-fresh-call.Post tt (e, tt) r (e, tt))
+      (r ≡ freshCollector e)
   pub collector-feed : (κ1 κ2 κ3 : Lft) (c : Collector) (piece report report′ area area′ : RefT (List ℕ)) (r : Fed)
       → Contract (collector-feed-call.Pre (κ1, (κ2, (κ3, tt))) (c, (piece, (report, (area, tt))))) (collector-feed-call.Post (κ1, (κ2, (κ3, tt))) (c, (piece, (report, (area, tt)))) r (c, (piece, (report′, (area′, tt)))))
       (Feeds c (now report) (now area) (now piece) r (now report′) (now area′))
@@ -225,9 +227,9 @@ pub record ExportedContracts : Type 0 where
   pub hb-data-run : (κ1 : Lft) (register : ℕ) (piece : RefT (List ℕ)) (r : ℕ)
       → Contract (hb-data-run-call.Pre (κ1, tt) (register, (piece, tt))) (hb-data-run-call.Post (κ1, tt) (register, (piece, tt)) r (register, (piece, tt)))
       (r ≡ dataRun register (now piece))
-  pub hb-fresh : (κ1 : Lft) (state state′ : RefT (List ℕ)) (r : ℕ)
-      → Contract (hb-fresh-call.Pre (κ1, tt) (state, tt)) (hb-fresh-call.Post (κ1, tt) (state, tt) r (state′, tt))
-      (Saves freshCollector (now state) r (now state′))
+  pub hb-fresh : (κ1 : Lft) (state state′ : RefT (List ℕ)) (later : ℕ) (r : ℕ)
+      → Contract (hb-fresh-call.Pre (κ1, tt) (state, (later, tt))) (hb-fresh-call.Post (κ1, tt) (state, (later, tt)) r (state′, (later, tt)))
+      (Saves (freshCollector (editionOf later)) (now state) r (now state′))
   pub hb-feed : (κ1 κ2 κ3 κ4 κ5 κ6 : Lft) (state state′ piece report report′ area area′ : RefT (List ℕ)) (eaten eaten′ reported reported′ : RefT ℕ) (r : ℕ)
       → Contract (hb-feed-call.Pre (κ1, (κ2, (κ3, (κ4, (κ5, (κ6, tt)))))) (state, (piece, (report, (area, (eaten, (reported, tt))))))) (hb-feed-call.Post (κ1, (κ2, (κ3, (κ4, (κ5, (κ6, tt)))))) (state, (piece, (report, (area, (eaten, (reported, tt)))))) r (state′, (piece, (report′, (area′, (eaten′, (reported′, tt)))))))
       (Trunk.Feeds (now state) (now report) (now area) (now piece) r (now eaten′) (now reported′) (now state′) (now report′) (now area′))
@@ -246,12 +248,12 @@ pub record ExportedContracts : Type 0 where
   pub hb-npdu-write : (κ1 κ2 κ3 : Lft) (fields out out′ : RefT (List ℕ)) (wrote wrote′ : RefT ℕ) (r : ℕ)
       → Contract (hb-npdu-write-call.Pre (κ1, (κ2, (κ3, tt))) (fields, (out, (wrote, tt)))) (hb-npdu-write-call.Post (κ1, (κ2, (κ3, tt))) (fields, (out, (wrote, tt))) r (fields, (out′, (wrote′, tt))))
       (Writes (npduFault (now fields)) (Network.encode (npduAt (now fields))) (now out) r (now wrote′) (now out′))
-  pub hb-apdu-read : (κ1 κ2 κ3 : Lft) (octets fields fields′ : RefT (List ℕ)) (next next′ : RefT ℕ) (r : ℕ)
-      → Contract (hb-apdu-read-call.Pre (κ1, (κ2, (κ3, tt))) (octets, (fields, (next, tt)))) (hb-apdu-read-call.Post (κ1, (κ2, (κ3, tt))) (octets, (fields, (next, tt))) r (octets, (fields′, (next′, tt))))
-      ((let a = readApdu (now octets) in FillsTo apduSize (apduGood a) (apduNumber a) (apduOctets a) (apduParams a) (now fields) r (now next′) (now fields′)))
-  pub hb-apdu-write : (κ1 κ2 κ3 : Lft) (fields out out′ : RefT (List ℕ)) (wrote wrote′ : RefT ℕ) (r : ℕ)
-      → Contract (hb-apdu-write-call.Pre (κ1, (κ2, (κ3, tt))) (fields, (out, (wrote, tt)))) (hb-apdu-write-call.Post (κ1, (κ2, (κ3, tt))) (fields, (out, (wrote, tt))) r (fields, (out′, (wrote′, tt))))
-      (Writes (apduFault (now fields)) (Header.header (apduAt (now fields))) (now out) r (now wrote′) (now out′))
+  pub hb-apdu-read : (κ1 κ2 κ3 : Lft) (octets : RefT (List ℕ)) (later : ℕ) (fields fields′ : RefT (List ℕ)) (next next′ : RefT ℕ) (r : ℕ)
+      → Contract (hb-apdu-read-call.Pre (κ1, (κ2, (κ3, tt))) (octets, (later, (fields, (next, tt))))) (hb-apdu-read-call.Post (κ1, (κ2, (κ3, tt))) (octets, (later, (fields, (next, tt)))) r (octets, (later, (fields′, (next′, tt)))))
+      ((let a = readApdu (editionOf later) (now octets) in FillsTo apduSize (apduGood a) (apduNumber a) (apduOctets a) (apduParams a) (now fields) r (now next′) (now fields′)))
+  pub hb-apdu-write : (κ1 κ2 κ3 : Lft) (fields : RefT (List ℕ)) (later : ℕ) (out out′ : RefT (List ℕ)) (wrote wrote′ : RefT ℕ) (r : ℕ)
+      → Contract (hb-apdu-write-call.Pre (κ1, (κ2, (κ3, tt))) (fields, (later, (out, (wrote, tt))))) (hb-apdu-write-call.Post (κ1, (κ2, (κ3, tt))) (fields, (later, (out, (wrote, tt)))) r (fields, (later, (out′, (wrote′, tt)))))
+      (Writes (apduFault (editionOf later) (now fields)) (Header.header (apduAt (now fields))) (now out) r (now wrote′) (now out′))
   pub hb-items-count : (κ1 κ2 : Lft) (octets : RefT (List ℕ)) (count count′ : RefT ℕ) (r : ℕ)
       → Contract (hb-items-count-call.Pre (κ1, (κ2, tt)) (octets, (count, tt))) (hb-items-count-call.Post (κ1, (κ2, tt)) (octets, (count, tt)) r (octets, (count′, tt)))
       (Counts (now octets) r (now count′))

@@ -32,6 +32,7 @@ use Rattle.npdu.specs.Layout as Network
 use Rattle.npdu.specs.Valid as NetworkRules
 use Rattle.npdu.specs.Fault as NetworkFault
 use Rattle.npdu.specs.Exact as NetworkRead
+use Rattle.apdu.specs.declared.Edition.{Edition}
 use Rattle.apdu.specs.declared.Pdu.{Pdu}
 use Rattle.apdu.specs.declared.Answer as Apdu
 use Rattle.apdu.specs.Reading.{readApdu}
@@ -78,7 +79,7 @@ use Rattle.recordings.specs.Frames.{rules, history, Completes}
 use Rattle.reports.specs.Layout.{reportSize}
 use Rattle.collector.specs.Frame.{bacnet, segmentAt, damageOctets}
 use Rattle.collector.specs.Calls.{passing, slotsOf, freshCollector, written, saidSo, Feeds, Stills, Forgets}
-use Rattle.collector.specs.Offering.{Passes, End, Called}
+use Rattle.collector.specs.Offering.{Passes, End, inEdition, Called}
 use Rattle.collector.specs.declared.Collector.{Collector}
 use Rattle.collector.specs.declared.Fed.{Fed}
 use Rattle.collector.specs.declared.Fell.{Fell}
@@ -110,8 +111,8 @@ pub record OneAnswer : Type 0 where
   pub receiver-silence : (m : Receiver) → One ReceiverFell (λ r. r ≡ silenceOf m)
   pub npdu-read : (s : List ℕ) → One Reading (λ r. r ≡ readNpdu s)
   pub npdu-write : (h : Npdu) (out : List ℕ) → One (Written × List ℕ) (λ x. Laid (NetworkFault.faultOf h) (Network.encode h) out (x .0) (x .1))
-  pub apdu-read : (s : List ℕ) → One Apdu.Answer (λ r. r ≡ readApdu s)
-  pub apdu-write : (p : Pdu) (out : List ℕ) → One (Written × List ℕ) (λ x. Laid (HeaderFault.faultOf p) (Header.header p) out (x .0) (x .1))
+  pub apdu-read : (e : Edition) (s : List ℕ) → One Apdu.Answer (λ r. r ≡ readApdu e s)
+  pub apdu-write : (e : Edition) (p : Pdu) (out : List ℕ) → One (Written × List ℕ) (λ x. Laid (HeaderFault.faultOf e p) (Header.header p) out (x .0) (x .1))
   pub items-count : (s : List ℕ) → One Tally (λ r. r ≡ counted (itemsOf s))
   pub items-list : (s out : List ℕ) → One (Tally × List ℕ) (λ x. Listed s out (x .0) (x .1))
   pub items-item-at : (s : List ℕ) (at : ℕ) → One OneItem (λ r. r ≡ endOf (oneAt s at))
@@ -127,7 +128,7 @@ pub record OneAnswer : Type 0 where
   pub reader-first : (s : List ℕ) → One ReaderStep (λ r. r ≡ stepOf s 0)
   pub rebuild-take : (t : Slots) (g : Head) (o area : List ℕ) → One (Taken × List ℕ) (λ x. Rebuild.Gives (Rebuild.taking t g o area) (x .0) (x .1))
   pub rebuild-forget : (t : Slots) (s : ℕ) → One Freed (λ r. Rebuild.Forgets t s r)
-  pub collector-fresh : One Collector (λ r. r ≡ freshCollector)
+  pub collector-fresh : (e : Edition) → One Collector (λ r. r ≡ freshCollector e)
   pub collector-feed : (c : Collector) (piece report area : List ℕ) → One (Fed × List ℕ × List ℕ) (λ x. Feeds c report area piece (x .0) (x .1) (x .2))
   pub collector-silence : (c : Collector) (report : List ℕ) → One (Fell × List ℕ) (λ x. Stills c report (x .0) (x .1))
   pub collector-forget : (c : Collector) (s : ℕ) → One Forgot (λ r. Forgets c s r)
@@ -141,7 +142,7 @@ NetworkNumbers = (s : List ℕ) → (readNpdu s .refused ≡ 0) ⊎ (Between 10 
 
 -- the APDU headers' reader: 20 to 24
 abbrev pub HeaderNumbers : Type 0
-HeaderNumbers = (s : List ℕ) (n : ℕ) → readApdu s ≡ Apdu.Answer.Refused n → Between 20 24 n
+HeaderNumbers = (e : Edition) (s : List ℕ) (n : ℕ) → readApdu e s ≡ Apdu.Answer.Refused n → Between 20 24 n
 
 -- counting: 30 to 39, and 39 exactly for "over 16,384 parameter octets (judged first)"
 abbrev pub CountNumbers : Type 0
@@ -172,7 +173,7 @@ abbrev pub NetworkWriterNumbers : Type 0
 NetworkWriterNumbers = (h : Npdu) → (NetworkFault.faultOf h ≡ 0) ⊎ Between 12 14 (NetworkFault.faultOf h)
 
 abbrev pub HeaderWriterNumbers : Type 0
-HeaderWriterNumbers = (p : Pdu) → (HeaderFault.faultOf p ≡ 0) ⊎ Between 22 23 (HeaderFault.faultOf p)
+HeaderWriterNumbers = (e : Edition) (p : Pdu) → (HeaderFault.faultOf e p ≡ 0) ⊎ Between 22 23 (HeaderFault.faultOf e p)
 
 -- each exactly when: ServiceWriterRows (specs/WriterRows)
 abbrev pub ServiceWriterNumbers : Type 0
@@ -316,17 +317,17 @@ abbrev pub NetworkReadsBack : Type 0
 NetworkReadsBack = (h : Npdu) (n : ℕ) (area later : List ℕ) → NetworkRules.Kept h → Laid (NetworkFault.faultOf h) (Network.encode h) area (Wrote n) later
     → readNpdu later ≡ NetworkRead.accepted n (Network.shown h)
 
--- ---- the eight APDU headers, each with its parameters
+-- ---- the eight APDU headers, each with its parameters, in every edition
 abbrev pub HeadersExact : Type 0
-HeadersExact = Exactly HeaderRead.Reads HeaderRules.Valid Header.encode
+HeadersExact = (e : Edition) → Exactly (HeaderRead.Reads e) (HeaderRules.Valid e) Header.encode
 
 abbrev pub HeadersWriteBack : Type 0
-HeadersWriteBack = (s area later : List ℕ) (p : Pdu) (r : Written) → readApdu s ≡ Apdu.Answer.Good p → paramsAt p ≤ length area
-    → Laid (HeaderFault.faultOf p) (Header.header p) area r later → (r ≡ Wrote (paramsAt p)) × (later ≡ take (paramsAt p) s ++ drop (paramsAt p) area)
+HeadersWriteBack = (e : Edition) (s area later : List ℕ) (p : Pdu) (r : Written) → readApdu e s ≡ Apdu.Answer.Good p → paramsAt p ≤ length area
+    → Laid (HeaderFault.faultOf e p) (Header.header p) area r later → (r ≡ Wrote (paramsAt p)) × (later ≡ take (paramsAt p) s ++ drop (paramsAt p) area)
 
 abbrev pub HeadersReadBack : Type 0
-HeadersReadBack = (p : Pdu) (n : ℕ) (area later t : List ℕ) → Laid (HeaderFault.faultOf p) (Header.header p) area (Wrote n) later → HeaderRules.Follows p t
-    → readApdu (take n later ++ t) ≡ Apdu.Answer.Good (HeaderFault.shown p)
+HeadersReadBack = (e : Edition) (p : Pdu) (n : ℕ) (area later t : List ℕ) → Laid (HeaderFault.faultOf e p) (Header.header p) area (Wrote n) later → HeaderRules.Follows p t
+    → readApdu e (take n later ++ t) ≡ Apdu.Answer.Good (HeaderFault.shown p)
 
 -- ---- tags: one tag with its contents is read at a place exactly when an item that keeps the rules stands there
 abbrev pub TagsExact : Type 0
@@ -391,21 +392,22 @@ ServicesSwallow =
 -- segment 0, joined in number order."
 
 -- the first sentence: from a state that 59 passes and an area of 65,536 octets, however the run is offered, each call giving any answer that its promise
--- allows, the reports with their places, the last state and the message area are the reading's
+-- allows, the reports with their places, the last state and the message area are the reading's by the rules of the start state's edition, and the last state is of
+-- that edition
 abbrev pub ReadByPosition : Type 0
 ReadByPosition = (c : Collector) (area : List ℕ) → Passes c → length area ≡ 65536 → (run : Run) (e : End)
-    → Called (length (heldOf (c .receiver))) c area run e → e ≡ reading (rules keys bacnet) (c .receiver) (slotsOf c) area run
+    → Called (length (heldOf (c .receiver))) c area run e → e ≡ inEdition (c .edition) (reading (rules keys (bacnet (c .edition))) (c .receiver) (slotsOf c) area run)
 
--- every run can be offered by these calls, so the sentence is not empty; a fresh collector passes 59, and so does every state that a run reaches
+-- every run can be offered by these calls, so the sentence is not empty; a fresh collector of each edition passes 59, and so does every state that a run reaches
 abbrev pub CanBeOffered : Type 0
 CanBeOffered = (c : Collector) (area : List ℕ) → Passes c → length area ≡ 65536 → (run : Run) → (e : End) × Called (length (heldOf (c .receiver))) c area run e
 
 abbrev pub FreshPasses : Type 0
-FreshPasses = Passes freshCollector
+FreshPasses = (e : Edition) → Passes (freshCollector e)
 
 abbrev pub ReachedPasses : Type 0
 ReachedPasses = (c : Collector) (area : List ℕ) → Passes c → length area ≡ 65536 → (p : ℕ) (run : Run) (e : End) → Called p c area run e
-    → Sound (e .state) × (passing (e .slots) ≡ true) × (length (e .area) ≡ 65536)
+    → Sound (e .state .1) × (passing (e .slots) ≡ true) × (length (e .area) ≡ 65536)
 
 -- the second sentence, at the place where a message's last segment ends: its slot's octets are the accepted segments of its key since the latest segment 0,
 -- in number order, and the length is theirs. The history is read off the recording; a completed message with bad tags is completed too.
@@ -414,9 +416,9 @@ MessagesWhole = (c : Collector) (area : List ℕ) → Passes c → length area �
     → (let t = readFrom (c .receiver) (wire all) in
     let p = length (heldOf (c .receiver)) in
     let run = front ++ (trunk e ∷ []) in
-    ended (p + length (wire front)) t ≡ some o → segmentAt o ≡ some g → (k : Key) (i n : ℕ)
-    → (let log = history keys bacnet t p (slotsOf c) area run in
-    Completes log k i n → begun keys k log ≡ true → Rebuilt keys k log (walk (rules keys bacnet) t p (slotsOf c) area run .area) i n))
+    ended (p + length (wire front)) t ≡ some o → segmentAt (c .edition) o ≡ some g → (k : Key) (i n : ℕ)
+    → (let log = history keys (bacnet (c .edition)) t p (slotsOf c) area run in
+    Completes log k i n → begun keys k log ≡ true → Rebuilt keys k log (walk (rules keys (bacnet (c .edition))) t p (slotsOf c) area run .area) i n))
 
 -- ---- THE SAME OVER OCTETS, for the calls that C and Rust link. "State to octets and back is .. the same state, so every promise carries over."
 
@@ -425,10 +427,10 @@ abbrev pub StatesExact : Type 0
 StatesExact = Exactly Loads Fits stateOctets
 
 -- demand 3's first sentence of the exported calls: from a state area that holds a state which 59 passes, however the run is offered by them, reports and message
--- area are the reading's, and the state area is then the octets of the state that the reading ends in, and holds it
+-- area are the reading's by the rules of its edition, and the state area is then the octets of the state that the reading ends in, of that edition, and holds it
 abbrev pub ReadOverOctets : Type 0
 ReadOverOctets = (state : List ℕ) (c : Collector) (area : List ℕ) → Octets state → Loads state c → Passes c → length area ≡ 65536 → (run : Run) (h : Heard)
     → Linked (length (heldOf (c .receiver))) state area run h
-    → (let e = reading (rules keys bacnet) (c .receiver) (slotsOf c) area run in
-    let last = stateBy (e .state) (e .slots) in
+    → (let e = reading (rules keys (bacnet (c .edition))) (c .receiver) (slotsOf c) area run in
+    let last = stateBy (c .edition) (e .state) (e .slots) in
     (h .reports ≡ e .reports) × (h .area ≡ e .area) × (h .state ≡ stateOctets last) × Loads (h .state) last)

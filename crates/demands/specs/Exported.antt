@@ -17,6 +17,7 @@ use Rattle.apdu.specs.Reading.{readApdu}
 use Rattle.apdu.specs.Fields.{paramsAt}
 use Rattle.apdu.specs.Layout as Header
 use Rattle.apdu.specs.Fault as HeaderFault
+use Rattle.apdu.specs.declared.Edition.{Edition}
 use Rattle.apdu.specs.declared.Answer.the-variants as ApduAnswer
 use Rattle.apdu.specs.declared.Pdu.{Pdu}
 use Rattle.items.specs.Grammar as Items
@@ -45,6 +46,7 @@ use Rattle.records.specs.Flag.{flag}
 use Rattle.records.specs.Network.{npduSize, npduRecord, npduAt}
 use Rattle.records.specs.Application.{apduSize, apduRecord, apduAt}
 use Rattle.records.specs.Service.{serviceSize, serviceRecord, serviceAt}
+use Rattle.state.specs.Edition.{editionOf}
 use Rattle.state.specs.Layout.{stateSize, stateOctets}
 use Rattle.state.specs.Calls.{Loads, Saves}
 use Rattle.hitchbarley.specs.Trunk as Trunk
@@ -80,13 +82,14 @@ pub record Carried (A : Type 0) (later : A → Collector) (Does : Collector → 
   pub octets : state′ ≡ stateOctets (later answer)
   pub again : Loads state′ (later answer)
 
--- hb_fresh: 60 exactly for an area of another size, which stays; else 0, and the octets of the fresh state
+-- hb_fresh: 60 exactly for an area of another size, which stays; else 0, and the octets of the fresh state of the edition that `later` says (specs/Editions:
+-- EditionSaid)
 abbrev pub ExportedFresh : Type 0
-ExportedFresh = (state : List ℕ) (r : ℕ) (state′ : List ℕ) → Saves freshCollector state r state′
+ExportedFresh = (state : List ℕ) (later r : ℕ) (state′ : List ℕ) → Saves (freshCollector (editionOf later)) state r state′
     → ((r ≡ 60) ↔ (length state ≡ stateSize → ⊥))
     × ((r ≡ 0) ↔ (length state ≡ stateSize))
     × ((r ≡ 0 → ⊥) → state′ ≡ state)
-    × (r ≡ 0 → (state′ ≡ stateOctets freshCollector) × Loads state′ freshCollector)
+    × (r ≡ 0 → (state′ ≡ stateOctets (freshCollector (editionOf later))) × Loads state′ (freshCollector (editionOf later)))
 
 -- hb_feed: "60: report area not 16 octets or message area not 65,536; eaten 0", the state area's size with them; what it does is what FeedDoes says of the
 -- collector's call
@@ -130,12 +133,12 @@ ExportedNpduRead = (s fields : List ℕ) (r next : ℕ) (fields′ : List ℕ)
     FillsTo npduSize (eqb (h .refused) 0) (h .refused) (npduRecord (h .head)) (h .next) fields r next fields′
     → ReadsInto 29 fields r ((fields′ ≡ fields) × (next ≡ 0)) ((r ≡ h .refused) × (h .refused ≡ 0 → (fields′ ≡ npduRecord (h .head)) × (next ≡ h .next))))
 
--- a refused APDU has the refusal's number, a good one its header's record and the place of its parameters
+-- a refused APDU has the refusal's number, a good one its header's record and the place of its parameters; in every edition
 abbrev pub ExportedApduRead : Type 0
-ExportedApduRead = (s fields : List ℕ) (r next : ℕ) (fields′ : List ℕ)
-    → (let a = readApdu s in
+ExportedApduRead = (e : Edition) (s fields : List ℕ) (r next : ℕ) (fields′ : List ℕ)
+    → (let a = readApdu e s in
     FillsTo apduSize (apduGood a) (apduNumber a) (apduOctets a) (apduParams a) fields r next fields′
-    → ReadsInto 12 fields r ((fields′ ≡ fields) × (next ≡ 0))
+    → ReadsInto 13 fields r ((fields′ ≡ fields) × (next ≡ 0))
     (((x : ℕ) → a ≡ ApduAnswer.Refused x → r ≡ x)
     × ((p : Pdu) → a ≡ ApduAnswer.Good p → (r ≡ 0) × (fields′ ≡ apduRecord p) × (next ≡ paramsAt p))))
 
@@ -190,12 +193,12 @@ ExportedNpduWrite = (fields area : List ℕ) (r wrote : ℕ) (later : List ℕ)
     → (let o = Network.encode (npduAt fields) in
     Writes (npduFault fields) o area r wrote later → WritesFrom (length fields ≡ 29) (NetworkFault.faultOf (npduAt fields)) o area r wrote later)
 
--- 21: a type above 7
+-- 21: a type above 7; in every edition
 abbrev pub ExportedApduWrite : Type 0
-ExportedApduWrite = (fields area : List ℕ) (r wrote : ℕ) (later : List ℕ)
+ExportedApduWrite = (e : Edition) (fields area : List ℕ) (r wrote : ℕ) (later : List ℕ)
     → (let o = Header.header (apduAt fields) in
-    Writes (apduFault fields) o area r wrote later
-    → WritesFrom (length fields ≡ 12) (pick (leb (oct fields 0) 7) (HeaderFault.faultOf (apduAt fields)) 21) o area r wrote later)
+    Writes (apduFault e fields) o area r wrote later
+    → WritesFrom (length fields ≡ 13) (pick (leb (oct fields 0) 7) (HeaderFault.faultOf e (apduAt fields)) 21) o area r wrote later)
 
 -- 62 is all that is said of the records, so 60 is never given
 abbrev pub ExportedItemsWrite : Type 0
@@ -224,7 +227,7 @@ pub record OneExported : Type 0 where
   pub hb-data-check : (payload : List ℕ) → One ℕ (λ r. r ≡ dataSent payload)
   pub hb-header-run : (register : ℕ) (piece : List ℕ) → One ℕ (λ r. r ≡ headerRun register piece)
   pub hb-data-run : (register : ℕ) (piece : List ℕ) → One ℕ (λ r. r ≡ dataRun register piece)
-  pub hb-fresh : (state : List ℕ) → One (ℕ × List ℕ) (λ x. Saves freshCollector state (x .0) (x .1))
+  pub hb-fresh : (state : List ℕ) (later : ℕ) → One (ℕ × List ℕ) (λ x. Saves (freshCollector (editionOf later)) state (x .0) (x .1))
   pub hb-feed : (state piece report area : List ℕ) → Octets state
       → One (ℕ × ℕ × ℕ × List ℕ × List ℕ × List ℕ) (λ x. Trunk.Feeds state report area piece (x .0) (x .1) (x .2) (x .3) (x .4) (x .5))
   pub hb-silence : (state report : List ℕ) → Octets state → One (ℕ × ℕ × List ℕ × List ℕ) (λ x. Trunk.Stills state report (x .0) (x .1) (x .2) (x .3))
@@ -235,10 +238,10 @@ pub record OneExported : Type 0 where
       → (let h = readNpdu octets in
       One (ℕ × ℕ × List ℕ) (λ x. FillsTo npduSize (eqb (h .refused) 0) (h .refused) (npduRecord (h .head)) (h .next) fields (x .0) (x .1) (x .2)))
   pub hb-npdu-write : (fields out : List ℕ) → One (ℕ × ℕ × List ℕ) (λ x. Writes (npduFault fields) (Network.encode (npduAt fields)) out (x .0) (x .1) (x .2))
-  pub hb-apdu-read : (octets fields : List ℕ)
-      → (let a = readApdu octets in
+  pub hb-apdu-read : (octets : List ℕ) (later : ℕ) (fields : List ℕ)
+      → (let a = readApdu (editionOf later) octets in
       One (ℕ × ℕ × List ℕ) (λ x. FillsTo apduSize (apduGood a) (apduNumber a) (apduOctets a) (apduParams a) fields (x .0) (x .1) (x .2)))
-  pub hb-apdu-write : (fields out : List ℕ) → One (ℕ × ℕ × List ℕ) (λ x. Writes (apduFault fields) (Header.header (apduAt fields)) out (x .0) (x .1) (x .2))
+  pub hb-apdu-write : (fields : List ℕ) (later : ℕ) (out : List ℕ) → One (ℕ × ℕ × List ℕ) (λ x. Writes (apduFault (editionOf later) fields) (Header.header (apduAt fields)) out (x .0) (x .1) (x .2))
   pub hb-items-count : (octets : List ℕ) → One (ℕ × ℕ) (λ x. Counts octets (x .0) (x .1))
   pub hb-items-list : (octets listed : List ℕ) → One (ℕ × ℕ × List ℕ) (λ x. Lists octets listed (x .0) (x .1) (x .2))
   pub hb-item-next : (octets : List ℕ) (at : ℕ) → One (ℕ × ℕ) (λ x. Steps octets at (x .0) (x .1))

@@ -2,6 +2,7 @@ pub mod Words
 pub mod Demands
 pub mod Contracts
 pub mod HeaderRows
+pub mod Editions
 pub mod SegmentRows
 pub mod TagRows
 pub mod Steps

@@ -65,20 +65,24 @@ pub record NetworkRecords : Type 0 where
   pub source : NetworkIs (network false false true false) (networkOctets 0 0 1 0)
   pub reply : NetworkIs (network false false false true) (networkOctets 0 0 0 1)
 
--- ---- an APDU header: type, SEG, MOR, SA, NAK, SRV, size code, invoke ID, number, window, service choice, reason
+-- ---- an APDU header: type, SEG, MOR, SA, NAK, SRV, size code, invoke ID, number, window, service choice, reason,
+-- code of the segments accepted
 pub record HeaderRecords : Type 0 where
-  pub request : HeaderIs (Pdus.Request (record { segment = record { seg = true; mor = false; number = 8; window = 9 }; sa = false; size = 6; invoke = 7; choice = 10 })) (0 ∷ 1 ∷ 0 ∷ 0 ∷ 0 ∷ 0 ∷ 6 ∷ 7 ∷ 8 ∷ 9 ∷ 10 ∷ 0 ∷ [])
-  pub more : HeaderIs (Pdus.Request (record { segment = record { seg = false; mor = true; number = 8; window = 9 }; sa = false; size = 6; invoke = 7; choice = 10 })) (0 ∷ 0 ∷ 1 ∷ 0 ∷ 0 ∷ 0 ∷ 6 ∷ 7 ∷ 8 ∷ 9 ∷ 10 ∷ 0 ∷ [])
-  pub accepted : HeaderIs (Pdus.Request (record { segment = record { seg = false; mor = false; number = 8; window = 9 }; sa = true; size = 6; invoke = 7; choice = 10 })) (0 ∷ 0 ∷ 0 ∷ 1 ∷ 0 ∷ 0 ∷ 6 ∷ 7 ∷ 8 ∷ 9 ∷ 10 ∷ 0 ∷ [])
-  pub unconfirmed : HeaderIs (Pdus.Unconfirmed (record { choice = 10 })) (1 ∷ 0 ∷ 0 ∷ 0 ∷ 0 ∷ 0 ∷ 0 ∷ 0 ∷ 0 ∷ 0 ∷ 10 ∷ 0 ∷ [])
-  pub simple : HeaderIs (Pdus.SimpleAck (record { invoke = 7; choice = 10 })) (2 ∷ 0 ∷ 0 ∷ 0 ∷ 0 ∷ 0 ∷ 0 ∷ 7 ∷ 0 ∷ 0 ∷ 10 ∷ 0 ∷ [])
-  pub complex : HeaderIs (Pdus.ComplexAck (record { segment = record { seg = true; mor = false; number = 8; window = 9 }; invoke = 7; choice = 10 })) (3 ∷ 1 ∷ 0 ∷ 0 ∷ 0 ∷ 0 ∷ 0 ∷ 7 ∷ 8 ∷ 9 ∷ 10 ∷ 0 ∷ [])
-  pub complex-more : HeaderIs (Pdus.ComplexAck (record { segment = record { seg = false; mor = true; number = 8; window = 9 }; invoke = 7; choice = 10 })) (3 ∷ 0 ∷ 1 ∷ 0 ∷ 0 ∷ 0 ∷ 0 ∷ 7 ∷ 8 ∷ 9 ∷ 10 ∷ 0 ∷ [])
-  pub segment-nak : HeaderIs (Pdus.SegmentAck (record { nak = true; srv = false; invoke = 7; number = 8; window = 9 })) (4 ∷ 0 ∷ 0 ∷ 0 ∷ 1 ∷ 0 ∷ 0 ∷ 7 ∷ 8 ∷ 9 ∷ 0 ∷ 0 ∷ [])
-  pub segment-srv : HeaderIs (Pdus.SegmentAck (record { nak = false; srv = true; invoke = 7; number = 8; window = 9 })) (4 ∷ 0 ∷ 0 ∷ 0 ∷ 0 ∷ 1 ∷ 0 ∷ 7 ∷ 8 ∷ 9 ∷ 0 ∷ 0 ∷ [])
-  pub error : HeaderIs (Pdus.Error (record { invoke = 7; choice = 10 })) (5 ∷ 0 ∷ 0 ∷ 0 ∷ 0 ∷ 0 ∷ 0 ∷ 7 ∷ 0 ∷ 0 ∷ 10 ∷ 0 ∷ [])
-  pub reject : HeaderIs (Pdus.Reject (record { invoke = 7; reason = 11 })) (6 ∷ 0 ∷ 0 ∷ 0 ∷ 0 ∷ 0 ∷ 0 ∷ 7 ∷ 0 ∷ 0 ∷ 0 ∷ 11 ∷ [])
-  pub abort : HeaderIs (Pdus.Abort (record { srv = true; invoke = 7; reason = 11 })) (7 ∷ 0 ∷ 0 ∷ 0 ∷ 0 ∷ 1 ∷ 0 ∷ 7 ∷ 0 ∷ 0 ∷ 0 ∷ 11 ∷ [])
+  -- a header's record is that header again, whatever its fields; the code alone, of any number
+  pub again : (p : Pdu) → apduAt (apduRecord p) ≡ p
+  pub code : (x : ℕ) → HeaderIs (Pdus.Request (record { segment = record { seg = false; mor = false; number = 0; window = 0 }; sa = false; size = 6; invoke = 7; choice = 10; accepts = x })) (0 ∷ 0 ∷ 0 ∷ 0 ∷ 0 ∷ 0 ∷ 6 ∷ 7 ∷ 0 ∷ 0 ∷ 10 ∷ 0 ∷ x ∷ [])
+  pub request : HeaderIs (Pdus.Request (record { segment = record { seg = true; mor = false; number = 8; window = 9 }; sa = false; size = 6; invoke = 7; choice = 10; accepts = 12 })) (0 ∷ 1 ∷ 0 ∷ 0 ∷ 0 ∷ 0 ∷ 6 ∷ 7 ∷ 8 ∷ 9 ∷ 10 ∷ 0 ∷ 12 ∷ [])
+  pub more : HeaderIs (Pdus.Request (record { segment = record { seg = false; mor = true; number = 8; window = 9 }; sa = false; size = 6; invoke = 7; choice = 10; accepts = 12 })) (0 ∷ 0 ∷ 1 ∷ 0 ∷ 0 ∷ 0 ∷ 6 ∷ 7 ∷ 8 ∷ 9 ∷ 10 ∷ 0 ∷ 12 ∷ [])
+  pub accepted : HeaderIs (Pdus.Request (record { segment = record { seg = false; mor = false; number = 8; window = 9 }; sa = true; size = 6; invoke = 7; choice = 10; accepts = 12 })) (0 ∷ 0 ∷ 0 ∷ 1 ∷ 0 ∷ 0 ∷ 6 ∷ 7 ∷ 8 ∷ 9 ∷ 10 ∷ 0 ∷ 12 ∷ [])
+  pub unconfirmed : HeaderIs (Pdus.Unconfirmed (record { choice = 10 })) (1 ∷ 0 ∷ 0 ∷ 0 ∷ 0 ∷ 0 ∷ 0 ∷ 0 ∷ 0 ∷ 0 ∷ 10 ∷ 0 ∷ 0 ∷ [])
+  pub simple : HeaderIs (Pdus.SimpleAck (record { invoke = 7; choice = 10 })) (2 ∷ 0 ∷ 0 ∷ 0 ∷ 0 ∷ 0 ∷ 0 ∷ 7 ∷ 0 ∷ 0 ∷ 10 ∷ 0 ∷ 0 ∷ [])
+  pub complex : HeaderIs (Pdus.ComplexAck (record { segment = record { seg = true; mor = false; number = 8; window = 9 }; invoke = 7; choice = 10 })) (3 ∷ 1 ∷ 0 ∷ 0 ∷ 0 ∷ 0 ∷ 0 ∷ 7 ∷ 8 ∷ 9 ∷ 10 ∷ 0 ∷ 0 ∷ [])
+  pub complex-more : HeaderIs (Pdus.ComplexAck (record { segment = record { seg = false; mor = true; number = 8; window = 9 }; invoke = 7; choice = 10 })) (3 ∷ 0 ∷ 1 ∷ 0 ∷ 0 ∷ 0 ∷ 0 ∷ 7 ∷ 8 ∷ 9 ∷ 10 ∷ 0 ∷ 0 ∷ [])
+  pub segment-nak : HeaderIs (Pdus.SegmentAck (record { nak = true; srv = false; invoke = 7; number = 8; window = 9 })) (4 ∷ 0 ∷ 0 ∷ 0 ∷ 1 ∷ 0 ∷ 0 ∷ 7 ∷ 8 ∷ 9 ∷ 0 ∷ 0 ∷ 0 ∷ [])
+  pub segment-srv : HeaderIs (Pdus.SegmentAck (record { nak = false; srv = true; invoke = 7; number = 8; window = 9 })) (4 ∷ 0 ∷ 0 ∷ 0 ∷ 0 ∷ 1 ∷ 0 ∷ 7 ∷ 8 ∷ 9 ∷ 0 ∷ 0 ∷ 0 ∷ [])
+  pub error : HeaderIs (Pdus.Error (record { invoke = 7; choice = 10 })) (5 ∷ 0 ∷ 0 ∷ 0 ∷ 0 ∷ 0 ∷ 0 ∷ 7 ∷ 0 ∷ 0 ∷ 10 ∷ 0 ∷ 0 ∷ [])
+  pub reject : HeaderIs (Pdus.Reject (record { invoke = 7; reason = 11 })) (6 ∷ 0 ∷ 0 ∷ 0 ∷ 0 ∷ 0 ∷ 0 ∷ 7 ∷ 0 ∷ 0 ∷ 0 ∷ 11 ∷ 0 ∷ [])
+  pub abort : HeaderIs (Pdus.Abort (record { srv = true; invoke = 7; reason = 11 })) (7 ∷ 0 ∷ 0 ∷ 0 ∷ 0 ∷ 1 ∷ 0 ∷ 7 ∷ 0 ∷ 0 ∷ 0 ∷ 11 ∷ 0 ∷ [])
 
 -- ---- a service: its sort, then its fields at the places of the header's table, high octets first
 pub record ServiceRecords : Type 0 where
@@ -91,7 +95,7 @@ pub record ServiceRecords : Type 0 where
 
 -- ---- records as a caller may fill them: "Any flag but 0 is set", "What the kind of PDU lacks is not looked at"; every octet is set, each with a value of its own
 abbrev pub headerOctets : ℕ → List ℕ
-headerOctets kind = kind ∷ 0xFF ∷ 2 ∷ 3 ∷ 4 ∷ 5 ∷ 6 ∷ 7 ∷ 8 ∷ 9 ∷ 10 ∷ 11 ∷ []
+headerOctets kind = kind ∷ 0xFF ∷ 2 ∷ 3 ∷ 4 ∷ 5 ∷ 6 ∷ 7 ∷ 8 ∷ 9 ∷ 10 ∷ 11 ∷ 12 ∷ []
 
 abbrev pub serviceOctets : ℕ → List ℕ
 serviceOctets sort = sort ∷ 2 ∷ 3 ∷ 4 ∷ 5 ∷ 6 ∷ 7 ∷ 8 ∷ 9 ∷ 10 ∷ 11 ∷ 12 ∷ 13 ∷ 14 ∷ 15 ∷ 16 ∷ 17 ∷ 18 ∷ 19 ∷ 20 ∷ 21 ∷ 22 ∷ 23 ∷ 24 ∷ 25 ∷ 26 ∷ []
@@ -111,7 +115,7 @@ pub record NetworkTaken : Type 0 where
   pub none : npduAt (networkOctets 0 0 0 0) ≡ network false false false false
 
 pub record HeadersTaken : Type 0 where
-  pub request : apduAt (headerOctets 0) ≡ Pdus.Request (record { segment = segment; sa = true; size = 6; invoke = 7; choice = 10 })
+  pub request : apduAt (headerOctets 0) ≡ Pdus.Request (record { segment = segment; sa = true; size = 6; invoke = 7; choice = 10; accepts = 12 })
   pub unconfirmed : apduAt (headerOctets 1) ≡ Pdus.Unconfirmed (record { choice = 10 })
   pub simple : apduAt (headerOctets 2) ≡ Pdus.SimpleAck (record { invoke = 7; choice = 10 })
   pub complex : apduAt (headerOctets 3) ≡ Pdus.ComplexAck (record { segment = segment; invoke = 7; choice = 10 })

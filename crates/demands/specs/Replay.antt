@@ -11,6 +11,7 @@ use Rattle.runs.specs.Run.{Run, ends}
 use Rattle.runs.specs.Run.Event.{octet, silence}
 use Rattle.runs.specs.Run.Order.{trunk, forget}
 use Rattle.runs.specs.Offered.{places, spoken}
+use Rattle.apdu.specs.declared.Edition.{Edition}
 use Rattle.trunk.specs.Reading.{heldOf}
 use Rattle.trunk.specs.Demand.{reading}
 use Rattle.rebuild.specs.View.{keys}
@@ -18,7 +19,7 @@ use Rattle.recordings.specs.Frames.{rules}
 use Rattle.reports.specs.Layout.{reportSize}
 use Rattle.collector.specs.Frame.{bacnet}
 use Rattle.collector.specs.Calls.{slotsOf, freshCollector}
-use Rattle.collector.specs.Offering.{Passes, End, told, Called}
+use Rattle.collector.specs.Offering.{Passes, End, inEdition, told, Called}
 use Rattle.collector.specs.declared.Collector.{Collector}
 use Rattle.playback.specs.Layout.{recordSize, recordOctets}
 use Rattle.playback.specs.Valid.{Valid, Bad, Behind}
@@ -61,7 +62,7 @@ pub record Stopped (c : Collector) (area records : List ℕ) : Type 0 where
   pub more : List ℕ
   pub bad : Bad kind value third fourth
   pub are : records ≡ recordOctets run ++ (kind ∷ value ∷ third ∷ fourth ∷ more)
-  pub silent : reading (rules keys bacnet) (c .receiver) (slotsOf c) area run .reports ≡ []
+  pub silent : reading (rules keys (bacnet (c .edition))) (c .receiver) (slotsOf c) area run .reports ≡ []
 
 -- 60, then 59, then 68, and 67 when its record is reached
 pub record ByNumber (n : ℕ) (Sized Broken Whole Stopped : Type 0) : Type 0 where
@@ -108,7 +109,7 @@ ReplayAsCalled = (p : ℕ) (c : Collector) (area : List ℕ) (run : Run) (e : En
 
 abbrev pub ReplayByPosition : Type 0
 ReplayByPosition = (c : Collector) (area : List ℕ) → Passes c → length area ≡ 65536 → (run : Run) (e : End)
-    → Replayed (length (heldOf (c .receiver))) c area run e → e ≡ reading (rules keys bacnet) (c .receiver) (slotsOf c) area run
+    → Replayed (length (heldOf (c .receiver))) c area run e → e ≡ inEdition (c .edition) (reading (rules keys (bacnet (c .edition))) (c .receiver) (slotsOf c) area run)
 
 -- every replay that is made is among them, in front of every way of going on: with records of any part of the run, and behind them whatever begins with no
 -- good record; what was not eaten is offered again, and its report stands at its place
@@ -121,17 +122,17 @@ ReplayAnyPart = (p : ℕ) (c : Collector) (report area : List ℕ) (lent run : R
 abbrev pub ReplayCanBeOffered : Type 0
 ReplayCanBeOffered = (c : Collector) (area : List ℕ) → Passes c → length area ≡ 65536 → (run : Run) → (e : End) × Replayed (length (heldOf (c .receiver))) c area run e
 
--- ---- worked: from a fresh collector, a forget order that is answered 56, the frame of the page's whole case, a bad record. One call eats nine records and
+-- ---- worked: from a fresh collector of any edition, a forget order that is answered 56, the frame of the page's whole case, a bad record. One call eats nine records and
 -- writes the report "`01 00 01 02 01` and eleven zeros"; the bad record is not looked at
 abbrev pub ReplayWorked : Type 0
-ReplayWorked = (report area : List ℕ) (r : Played) (report′ area′ : List ℕ) → length report ≡ reportSize → length area ≡ 65536
-    → Plays freshCollector report area
+ReplayWorked = (d : Edition) (report area : List ℕ) (r : Played) (report′ area′ : List ℕ) → length report ≡ reportSize → length area ≡ 65536
+    → Plays (freshCollector d) report area
     (2 ∷ 0 ∷ 0 ∷ 0 ∷ 0 ∷ 0x55 ∷ 0 ∷ 0 ∷ 0 ∷ 0xFF ∷ 0 ∷ 0 ∷ 0 ∷ 0x01 ∷ 0 ∷ 0 ∷ 0 ∷ 0x02 ∷ 0 ∷ 0 ∷ 0 ∷ 0x01 ∷ 0 ∷ 0 ∷ 0 ∷ 0x00 ∷ 0 ∷ 0 ∷ 0 ∷ 0x00 ∷ 0 ∷ 0 ∷ 0 ∷ 0xF5 ∷ 0 ∷ 0 ∷ 3 ∷ 0 ∷ 0 ∷ 0 ∷ [])
     r report′ area′
     → (r .refused ≡ 0) × (r .eaten ≡ 9) × (r .reported ≡ true) × (report′ ≡ 0x01 ∷ 0x00 ∷ 0x01 ∷ 0x02 ∷ 0x01 ∷ 0 ∷ 0 ∷ 0 ∷ 0 ∷ 0 ∷ 0 ∷ 0 ∷ 0 ∷ 0 ∷ 0 ∷ 0 ∷ [])
 
 -- from a fresh collector, 55 FF, a silence within the header, a forget order: one call eats three records and writes damage 4, "`02 04` and fourteen zeros"
 abbrev pub ReplaySilenceWorked : Type 0
-ReplaySilenceWorked = (report area : List ℕ) (r : Played) (report′ area′ : List ℕ) → length report ≡ reportSize → length area ≡ 65536
-    → Plays freshCollector report area (0 ∷ 0x55 ∷ 0 ∷ 0 ∷ 0 ∷ 0xFF ∷ 0 ∷ 0 ∷ 1 ∷ 0 ∷ 0 ∷ 0 ∷ 2 ∷ 7 ∷ 0 ∷ 0 ∷ []) r report′ area′
+ReplaySilenceWorked = (d : Edition) (report area : List ℕ) (r : Played) (report′ area′ : List ℕ) → length report ≡ reportSize → length area ≡ 65536
+    → Plays (freshCollector d) report area (0 ∷ 0x55 ∷ 0 ∷ 0 ∷ 0 ∷ 0xFF ∷ 0 ∷ 0 ∷ 1 ∷ 0 ∷ 0 ∷ 0 ∷ 2 ∷ 7 ∷ 0 ∷ 0 ∷ []) r report′ area′
     → (r .refused ≡ 0) × (r .eaten ≡ 3) × (r .reported ≡ true) × (report′ ≡ 0x02 ∷ 0x04 ∷ 0 ∷ 0 ∷ 0 ∷ 0 ∷ 0 ∷ 0 ∷ 0 ∷ 0 ∷ 0 ∷ 0 ∷ 0 ∷ 0 ∷ 0 ∷ 0 ∷ [])

@@ -13,6 +13,7 @@ use Rattle.npdu.specs.Exact as Network
 use Rattle.npdu.specs.declared.Npdu.{Npdu}
 use Rattle.apdu.specs.Reading as Header
 use Rattle.apdu.specs.Reading.{readApdu}
+use Rattle.apdu.specs.declared.Edition.{Edition}
 use Rattle.apdu.specs.declared.Answer.the-variants.{Refused}
 use Rattle.apdu.specs.declared.Segment.{Segment as Numbered}
 use Rattle.apdu.specs.declared.RequestPdu.{RequestPdu}
@@ -126,29 +127,29 @@ pub record Behind (h d : List ℕ) (message : Bool) (o : List ℕ) : Type 0 wher
   pub read : Network.Reads d (record { head = head; rest = o })
   pub layer : head .message ≡ message
 
--- the frame's APDU is a: the PDU p, and t its parameters; HeadersExact says when that is so
-pub record Carries (h d a : List ℕ) (p : Pdu) (t : List ℕ) : Type 0 where
+-- the frame's APDU is a: the PDU p, read by the edition e, and t its parameters; HeadersExact says when that is so
+pub record Carries (e : Edition) (h d a : List ℕ) (p : Pdu) (t : List ℕ) : Type 0 where
   pub behind : Behind h d false a
-  pub read : Header.Reads a (record { pdu = p; parameters = t })
+  pub read : Header.Reads e a (record { pdu = p; parameters = t })
 
 -- ---- a good frame that carries no segment: its report o. "Tags good" and tag numbers are those of ItemsCount and ItemRows
-pub data PlainReport (h d o : List ℕ) : Type 0 where
+pub data PlainReport (e : Edition) (h d o : List ℕ) : Type 0 where
   -- 1: of another type
-  other : (FiveOrSix h → ⊥) → o ≡ kind1 h (length d) → PlainReport h d o
+  other : (FiveOrSix h → ⊥) → o ≡ kind1 h (length d) → PlainReport e h d o
   -- 6 with the network header's number, 10 to 14
-  npdu-refused : (x : ℕ) → FiveOrSix h → readNpdu d .refused ≡ x → (x ≡ 0 → ⊥) → o ≡ kind6 h x → PlainReport h d o
+  npdu-refused : (x : ℕ) → FiveOrSix h → readNpdu d .refused ≡ x → (x ≡ 0 → ⊥) → o ≡ kind6 h x → PlainReport e h d o
   -- 7: a network layer message, by the octets behind its header, message type and vendor with it
-  network : (rest : List ℕ) → Behind h d true rest → o ≡ kind7 h (length rest) → PlainReport h d o
+  network : (rest : List ℕ) → Behind h d true rest → o ≡ kind7 h (length rest) → PlainReport e h d o
   -- 6 with the APDU header's number, 20 to 24; with the tag number of its parameters, 30 to 39
-  apdu-refused : (a : List ℕ) (x : ℕ) → Behind h d false a → readApdu a ≡ Refused x → o ≡ kind6 h x → PlainReport h d o
-  tags-refused : (a : List ℕ) (p : Pdu) (t : List ℕ) (x : ℕ) → Carries h d a p t → segIn p ≡ false → counted (itemsOf t) ≡ Tally.Refused x → o ≡ kind6 h x → PlainReport h d o
+  apdu-refused : (a : List ℕ) (x : ℕ) → Behind h d false a → readApdu e a ≡ Refused x → o ≡ kind6 h x → PlainReport e h d o
+  tags-refused : (a : List ℕ) (p : Pdu) (t : List ℕ) (x : ℕ) → Carries e h d a p t → segIn p ≡ false → counted (itemsOf t) ≡ Tally.Refused x → o ≡ kind6 h x → PlainReport e h d o
   -- 3: the whole APDU's length; PDUs without parameters have no tags to judge
-  apdu : (a : List ℕ) (p : Pdu) (t : List ℕ) (n : ℕ) → Carries h d a p t → segIn p ≡ false → counted (itemsOf t) ≡ Tally.Items n
-      → o ≡ kind3 h (oct a 0) (invokeIn p) (choiceIn p) (length a) → PlainReport h d o
+  apdu : (a : List ℕ) (p : Pdu) (t : List ℕ) (n : ℕ) → Carries e h d a p t → segIn p ≡ false → counted (itemsOf t) ≡ Tally.Items n
+      → o ≡ kind3 h (oct a 0) (invokeIn p) (choiceIn p) (length a) → PlainReport e h d o
 
 -- exactly that is reported: it carries no segment and o is its report, just when the page's words give o
 abbrev pub FrameReports : Type 0
-FrameReports = (h d o : List ℕ) → ((segmentAt (good h d) ≡ none) × (plainAt (good h d) ≡ o)) ↔ PlainReport h d o
+FrameReports = (e : Edition) (h d o : List ℕ) → ((segmentAt e (good h d) ≡ none) × (plainAt e (good h d) ≡ o)) ↔ PlainReport e h d o
 
 -- ---- the segment that a good frame carries. "Key: MS/TP source, MS/TP destination, PDU type, invoke ID."
 abbrev pub segmentOf : List ℕ → (type invoke : ℕ) → Numbered → ℕ → List ℕ → Segment Key
@@ -162,15 +163,15 @@ segmentOf h type invoke s choice t =
     }
 
 -- a confirmed request (type 0) or a complex ack (type 3) with SEG, in the APDU a
-pub data CarriesSegment (h d a : List ℕ) (g : Segment Key) : Type 0 where
-  request : (p : RequestPdu) (t : List ℕ) → Carries h d a (Request p) t → p .segment .seg ≡ true
-      → g ≡ segmentOf h 0 (p .invoke) (p .segment) (p .choice) t → CarriesSegment h d a g
-  complex-ack : (p : ComplexAckPdu) (t : List ℕ) → Carries h d a (ComplexAck p) t → p .segment .seg ≡ true
-      → g ≡ segmentOf h 3 (p .invoke) (p .segment) (p .choice) t → CarriesSegment h d a g
+pub data CarriesSegment (e : Edition) (h d a : List ℕ) (g : Segment Key) : Type 0 where
+  request : (p : RequestPdu) (t : List ℕ) → Carries e h d a (Request p) t → p .segment .seg ≡ true
+      → g ≡ segmentOf h 0 (p .invoke) (p .segment) (p .choice) t → CarriesSegment e h d a g
+  complex-ack : (p : ComplexAckPdu) (t : List ℕ) → Carries e h d a (ComplexAck p) t → p .segment .seg ≡ true
+      → g ≡ segmentOf h 3 (p .invoke) (p .segment) (p .choice) t → CarriesSegment e h d a g
 
 -- g is the segment that it carries exactly when these words say so
 abbrev pub SegmentIs : Type 0
-SegmentIs = (h d : List ℕ) (g : Segment Key) → (segmentAt (good h d) ≡ some g) ↔ ((a : List ℕ) × CarriesSegment h d a g)
+SegmentIs = (e : Edition) (h d : List ℕ) (g : Segment Key) → (segmentAt e (good h d) ≡ some g) ↔ ((a : List ℕ) × CarriesSegment e h d a g)
 
 -- ---- its report o, from the answer w of rebuilding and the message area behind it; SegmentRows says which answer. "Slot s owns message area octets 16384 s .."
 pub data SegmentReport (h a : List ℕ) (g : Segment Key) (w : Answer) (area o : List ℕ) : Type 0 where
@@ -184,28 +185,28 @@ pub data SegmentReport (h a : List ℕ) (g : Segment Key) (w : Answer) (area o :
   bad-tags : (i n x : ℕ) → w ≡ completed i n → counted (itemsOf (take n (drop (16384 * i) area))) ≡ Tally.Refused x → o ≡ kind6 h x → SegmentReport h a g w area o
 
 abbrev pub SegmentReported : Type 0
-SegmentReported = (h d a : List ℕ) (g : Segment Key) → CarriesSegment h d a g → (w : Answer) (area o : List ℕ)
-    → (answeredAt (good h d) w area ≡ o) ↔ SegmentReport h a g w area o
+SegmentReported = (e : Edition) (h d a : List ℕ) (g : Segment Key) → CarriesSegment e h d a g → (w : Answer) (area o : List ℕ)
+    → (answeredAt e (good h d) w area ≡ o) ↔ SegmentReport h a g w area o
 
--- ---- every good frame, over the slots s and the message area before it
-pub data Reported (h d : List ℕ) (s : List (Slot Key)) (area o : List ℕ) : Type 0 where
-  plain : PlainReport h d o → Reported h d s area o
-  segment : (a : List ℕ) (g : Segment Key) → CarriesSegment h d a g
-      → (let x = rebuild keys g (boxed s area) in SegmentReport h a g (x .answer) (x .box .area) o) → Reported h d s area o
+-- ---- every good frame, in an edition, over the slots s and the message area before it
+pub data Reported (e : Edition) (h d : List ℕ) (s : List (Slot Key)) (area o : List ℕ) : Type 0 where
+  plain : PlainReport e h d o → Reported e h d s area o
+  segment : (a : List ℕ) (g : Segment Key) → CarriesSegment e h d a g
+      → (let x = rebuild keys g (boxed s area) in SegmentReport h a g (x .answer) (x .box .area) o) → Reported e h d s area o
 
 -- what the rules of ReadByPosition report of a good frame is o exactly when the page's words give o; of a damage it is kind 2 with its number
 abbrev pub GoodFrameReported : Type 0
-GoodFrameReported = (h d : List ℕ) (s : List (Slot Key)) (area o : List ℕ) → (rules keys bacnet .act (good h d) s area .0 ≡ o) ↔ Reported h d s area o
+GoodFrameReported = (e : Edition) (h d : List ℕ) (s : List (Slot Key)) (area o : List ℕ) → (rules keys (bacnet e) .act (good h d) s area .0 ≡ o) ↔ Reported e h d s area o
 
 abbrev pub DamageReported : Type 0
-DamageReported = (n : ℕ) (s : List (Slot Key)) (area : List ℕ) → rules keys bacnet .act (damage n) s area .0 ≡ kind2 n
+DamageReported = (e : Edition) (n : ℕ) (s : List (Slot Key)) (area : List ℕ) → rules keys (bacnet e) .act (damage n) s area .0 ≡ kind2 n
 
 -- the same of the call that ends a frame, by its promise (hb_feed's by ExportedFeed): o is what it leaves in the report area exactly when the page's words give o
 abbrev pub FeedReports : Type 0
 FeedReports = (c : Collector) (piece report area : List ℕ) (r : Fed) (report′ area′ : List ℕ) → Feeds c report area piece r report′ area′ → r .refused ≡ 0
     → (let f = feedOf (c .receiver) piece in
     let x = outOf (f .outcome) (f .receiver) in
-    ((h d : List ℕ) → x ≡ some (good h d) → (o : List ℕ) → (report′ ≡ o) ↔ Reported h d (slotsOf c) area o) × ((n : ℕ) → x ≡ some (damage n) → report′ ≡ kind2 n))
+    ((h d : List ℕ) → x ≡ some (good h d) → (o : List ℕ) → (report′ ≡ o) ↔ Reported (c .edition) h d (slotsOf c) area o) × ((n : ℕ) → x ≡ some (damage n) → report′ ≡ kind2 n))
 
 -- and of a silence that ends in damage
 abbrev pub SilenceReports : Type 0

@@ -8,6 +8,7 @@ use lib.ListN.{length, replicate}
 use Rattle.runs.specs.Run.{Run, octs}
 use Rattle.runs.specs.Run.Event.{silence}
 use Rattle.runs.specs.Run.Order.{trunk}
+use Rattle.apdu.specs.declared.Edition.{Edition}
 use Rattle.trunk.specs.Reading.{Out}
 use Rattle.trunk.specs.Reading.Out.{good}
 use Rattle.messages.specs.Slots.{part}
@@ -18,8 +19,8 @@ use Rattle.collector.specs.Offering.{End, Called}
 
 -- ---- "Whole case: `55 FF 01 02 01 00 00 F5` gives `01 00 01 02 01` and eleven zeros", at its last octet and however it is offered
 abbrev pub WholeCase : Type 0
-WholeCase = (area : List ℕ) → length area ≡ 65536 → (e : End)
-    → Called 0 freshCollector area (octs (0x55 ∷ 0xFF ∷ 0x01 ∷ 0x02 ∷ 0x01 ∷ 0x00 ∷ 0x00 ∷ 0xF5 ∷ [])) e
+WholeCase = (d : Edition) (area : List ℕ) → length area ≡ 65536 → (e : End)
+    → Called 0 (freshCollector d) area (octs (0x55 ∷ 0xFF ∷ 0x01 ∷ 0x02 ∷ 0x01 ∷ 0x00 ∷ 0x00 ∷ 0xF5 ∷ [])) e
     → e .reports ≡ (7, 0x01 ∷ 0x00 ∷ 0x01 ∷ 0x02 ∷ 0x01 ∷ 0 ∷ 0 ∷ 0 ∷ 0 ∷ 0 ∷ 0 ∷ 0 ∷ 0 ∷ 0 ∷ 0 ∷ 0 ∷ []) ∷ []
 
 -- ---- one recording: what is on the trunk, and the report that its end causes
@@ -35,9 +36,9 @@ abbrev pub placed : ℕ → List Case → List (ℕ × List ℕ)
 placed p [] = []
 placed p (c ∷ cs) = (p + length (c .0) - 1, c .1) ∷ placed (p + length (c .0)) cs
 
--- however it is offered to a fresh collector, the reports and their places are these
+-- however it is offered to a fresh collector of any edition, the reports and their places are these
 abbrev pub AsWorked : List Case → Type 0
-AsWorked cases = (area : List ℕ) → length area ≡ 65536 → (e : End) → Called 0 freshCollector area (runOf cases) e → e .reports ≡ placed 0 cases
+AsWorked cases = (d : Edition) (area : List ℕ) → length area ≡ 65536 → (e : End) → Called 0 (freshCollector d) area (runOf cases) e → e .reports ≡ placed 0 cases
 
 -- 1 "frame of a type other than 5 and 6": type 14, three octets of data
 abbrev pub otherType : Case
@@ -161,7 +162,7 @@ ReportsWorked = AsWorked workedCases
 
 -- "length, high octet first": 258 octets of data are 01 02
 abbrev pub LongReport : Type 0
-LongReport = plainAt (good (0x14 ∷ 0x22 ∷ 0x33 ∷ 0x01 ∷ 0x02 ∷ []) (replicate 258 0x71))
+LongReport = (d : Edition) → plainAt d (good (0x14 ∷ 0x22 ∷ 0x33 ∷ 0x01 ∷ 0x02 ∷ []) (replicate 258 0x71))
     ≡ 0x01 ∷ 0x00 ∷ 0x14 ∷ 0x22 ∷ 0x33 ∷ 0 ∷ 0 ∷ 0 ∷ 0x00 ∷ 0x00 ∷ 0x01 ∷ 0x02 ∷ 0 ∷ 0 ∷ 0 ∷ 0 ∷ []
 
 -- ---- a segment by its answer: number 1 in a frame of the given type
@@ -170,14 +171,14 @@ segmentFrame kind = good (kind ∷ 0x21 ∷ 0x43 ∷ 0x00 ∷ 0x0A ∷ []) (0x01
 
 -- 4: in slot 3, 16,137 octets held so far; 5: in slot 2, seven octets with good tags in all; 6 with the tag number where a group is left open in them;
 -- 6 with the segment's
-pub record SegmentReports (area : List ℕ) : Type 0 where
-  pub held : answeredAt (segmentFrame 0x06) (taken 3 16137) area
+pub record SegmentReports (d : Edition) (area : List ℕ) : Type 0 where
+  pub held : answeredAt d (segmentFrame 0x06) (taken 3 16137) area
       ≡ 0x04 ∷ 0x00 ∷ 0x06 ∷ 0x21 ∷ 0x43 ∷ 0x3C ∷ 0x57 ∷ 0x03 ∷ 0x00 ∷ 0x00 ∷ 0x3F ∷ 0x09 ∷ 0x0E ∷ 0 ∷ 0 ∷ 0 ∷ []
-  pub whole : part 32768 7 area ≡ 0x3E ∷ 0x44 ∷ 0x42 ∷ 0x39 ∷ 0x99 ∷ 0x9A ∷ 0x3F ∷ [] → answeredAt (segmentFrame 0x06) (completed 2 7) area
+  pub whole : part 32768 7 area ≡ 0x3E ∷ 0x44 ∷ 0x42 ∷ 0x39 ∷ 0x99 ∷ 0x9A ∷ 0x3F ∷ [] → answeredAt d (segmentFrame 0x06) (completed 2 7) area
       ≡ 0x05 ∷ 0x00 ∷ 0x06 ∷ 0x21 ∷ 0x43 ∷ 0x3C ∷ 0x57 ∷ 0x02 ∷ 0x00 ∷ 0x00 ∷ 0x00 ∷ 0x07 ∷ 0x0E ∷ 0 ∷ 0 ∷ 0 ∷ []
-  pub bad-tags : part 32768 1 area ≡ 0x3E ∷ [] → answeredAt (segmentFrame 0x05) (completed 2 1) area
+  pub bad-tags : part 32768 1 area ≡ 0x3E ∷ [] → answeredAt d (segmentFrame 0x05) (completed 2 1) area
       ≡ 0x06 ∷ 0x24 ∷ 0x05 ∷ 0x21 ∷ 0x43 ∷ 0 ∷ 0 ∷ 0 ∷ 0 ∷ 0 ∷ 0 ∷ 0 ∷ 0 ∷ 0 ∷ 0 ∷ 0 ∷ []
-  pub not-taken : answeredAt (segmentFrame 0x05) (refused 52) area ≡ 0x06 ∷ 0x34 ∷ 0x05 ∷ 0x21 ∷ 0x43 ∷ 0 ∷ 0 ∷ 0 ∷ 0 ∷ 0 ∷ 0 ∷ 0 ∷ 0 ∷ 0 ∷ 0 ∷ 0 ∷ []
+  pub not-taken : answeredAt d (segmentFrame 0x05) (refused 52) area ≡ 0x06 ∷ 0x34 ∷ 0x05 ∷ 0x21 ∷ 0x43 ∷ 0 ∷ 0 ∷ 0 ∷ 0 ∷ 0 ∷ 0 ∷ 0 ∷ 0 ∷ 0 ∷ 0 ∷ 0 ∷ []
 
 abbrev pub SegmentReportsWorked : Type 0
-SegmentReportsWorked = (area : List ℕ) → SegmentReports area
+SegmentReportsWorked = (d : Edition) (area : List ℕ) → SegmentReports d area

@@ -1,10 +1,13 @@
--- States, octet by octet: "State to octets and back is .. the same state." In the first no two fields have one value (but `used`, 1 in both open slots), so
--- that none can stand at another's place: for that it got more octets than a store has, a state that 59 names. States are laid and read whatever they hold.
+-- States, octet by octet: "State to octets and back is .. the same state." In the first no two fields have one value (but the edition and `used` of both open
+-- slots, which are 1), so that none can stand at another's place: for that it got more octets than a store has, a state that 59 names. States are laid and read
+-- whatever they hold.
 use Prim.Native.Nat.{ℕ}
 use mathlib.Core.Path.{_≡_}
 use mathlib.Core.Bool.{true}
 use mathlib.Core.List.{List, [], _∷_, _++_}
 use lib.ListN.{length, take, drop, replicate}
+use Rattle.octets.specs.Reading.{oct}
+use Rattle.apdu.specs.declared.Edition.the-variants.{First, Later}
 use Rattle.frames.specs.declared.Phase.{Phase}
 use Rattle.frames.specs.declared.Phase.the-variants.{Hunting, Preamble, Header, Data}
 use Rattle.rebuild.specs.View.{freeSlot}
@@ -25,10 +28,11 @@ workedSlot = record { used = true; key = record { source = 20; destination = 21;
 abbrev pub otherSlot : Slot
 otherSlot = record { used = true; key = record { source = 30; destination = 31; kind = 32; invoke = 33 }; next = 34; choice = 35; held = 9253 }
 
--- in a phase, of a frame of type 6 from 11 to 10 with 1,800 octets; the first and the third slot open
+-- in a phase, of a frame of type 6 from 11 to 10 with 1,800 octets, of the later edition; the first and the third slot open
 abbrev pub workedIn : Phase → Collector
 workedIn phase =
     record {
+      edition = Later;
       receiver = record { link = record { phase = phase; head = 6 ∷ 10 ∷ 11 ∷ 7 ∷ 8 ∷ []; first = 12 }; store = workedStore };
       slots = record { slots = workedSlot ∷ freeSlot ∷ otherSlot ∷ freeSlot ∷ [] };
     }
@@ -41,7 +45,8 @@ workedState = workedIn (Data 1029)
 abbrev pub workedLink : List ℕ
 workedLink = 3 ∷ 4 ∷ 5 ∷ 6 ∷ 10 ∷ 11 ∷ 7 ∷ 8 ∷ 12 ∷ []
 
--- octets 510 to 545, nine a slot: used, MS/TP source, MS/TP destination, PDU type, invoke ID, next number, service choice, octets held (2)
+-- octet 510 is the edition's: 0 is 1995, 1 the later one
+-- octets 511 to 546, nine a slot: used, MS/TP source, MS/TP destination, PDU type, invoke ID, next number, service choice, octets held (2)
 abbrev pub workedSlots : List ℕ
 workedSlots =
     (1 ∷ 20 ∷ 21 ∷ 22 ∷ 23 ∷ 24 ∷ 25 ∷ 26 ∷ 27 ∷ [])
@@ -50,25 +55,28 @@ workedSlots =
     ++ (0 ∷ 0 ∷ 0 ∷ 0 ∷ 0 ∷ 0 ∷ 0 ∷ 0 ∷ 0 ∷ [])))
 
 abbrev pub workedOctets : List ℕ
-workedOctets = workedLink ++ (workedStore ++ workedSlots)
+workedOctets = workedLink ++ (workedStore ++ (1 ∷ workedSlots))
 
 -- the state in a phase is these octets, with phase and octets got in front, and they are that state
 abbrev pub InPhase : Phase → List ℕ → Type 0
 InPhase phase front =
-    let o = front ++ ((6 ∷ 10 ∷ 11 ∷ 7 ∷ 8 ∷ 12 ∷ []) ++ (workedStore ++ workedSlots)) in
+    let o = front ++ ((6 ∷ 10 ∷ 11 ∷ 7 ∷ 8 ∷ 12 ∷ []) ++ (workedStore ++ (1 ∷ workedSlots))) in
     (stateOctets (workedIn phase) ≡ o) × Loads o (workedIn phase)
 
 pub record StateOctets : Type 0 where
-  -- the state is these 546 octets, store from 9 and slots from 510 on, and they are that state
+  -- the state is these 547 octets, store from 9, edition at 510 and slots from 511 on, and they are that state
   pub laid : stateOctets workedState ≡ workedOctets
-  pub size : length workedOctets ≡ 546
+  pub size : length workedOctets ≡ 547
   pub store : take 501 (drop 9 workedOctets) ≡ workedStore
-  pub slots : drop 510 workedOctets ≡ workedSlots
+  pub edition : oct workedOctets 510 ≡ 1
+  pub slots : drop 511 workedOctets ≡ workedSlots
   pub back : Loads workedOctets workedState
   -- the other phases: 0 hunting and 1 preamble, no octets got; 2 header, 9 octets got
   pub hunting : InPhase Hunting (0 ∷ 0 ∷ 0 ∷ [])
   pub preamble : InPhase Preamble (1 ∷ 0 ∷ 0 ∷ [])
   pub header : InPhase (Header 9) (2 ∷ 0 ∷ 9 ∷ [])
-  -- a fresh state is 546 zeros, and they are a fresh state
-  pub fresh : stateOctets freshCollector ≡ replicate 546 0
-  pub fresh-back : Loads (replicate 546 0) freshCollector
+  -- a fresh state of 1995 is 547 zeros, and they are that state; a fresh one of the later edition has 1 at 510
+  pub fresh : stateOctets (freshCollector First) ≡ replicate 547 0
+  pub fresh-back : Loads (replicate 547 0) (freshCollector First)
+  pub fresh-later : stateOctets (freshCollector Later) ≡ replicate 510 0 ++ (1 ∷ replicate 36 0)
+  pub fresh-later-back : Loads (replicate 510 0 ++ (1 ∷ replicate 36 0)) (freshCollector Later)

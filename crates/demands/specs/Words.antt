@@ -112,16 +112,16 @@ unfedBy n c = record { refused = n; eaten = 0; reported = false; state = c }
 abbrev pub quietBy : ℕ → Collector → Fell
 quietBy n c = record { refused = n; reported = false; state = c }
 
--- ---- what a piece that is not refused changes: by what the receiver's answer f ended, and by the segment that a good frame carries
+-- ---- what a piece that is not refused changes: by what the receiver's answer f ended, and by the segment that a good frame carries, read by the state's edition
 abbrev pub BySegment : Collector → List ℕ → Out → Option (Segment Key) → List ℕ → List (Slot Key) → List ℕ → Type 0
-BySegment c area o none report′ slots area′ = (report′ ≡ plainAt o) × (slots ≡ slotsOf c) × (area′ ≡ area)
+BySegment c area o none report′ slots area′ = (report′ ≡ plainAt (c .edition) o) × (slots ≡ slotsOf c) × (area′ ≡ area)
 BySegment c area o (some g) report′ slots area′ =
     let d = rebuild keys g (boxed (slotsOf c) area) in
-    (report′ ≡ answeredAt o (d .answer) (d .box .area)) × (slots ≡ d .box .slots) × (area′ ≡ d .box .area)
+    (report′ ≡ answeredAt (c .edition) o (d .answer) (d .box .area)) × (slots ≡ d .box .slots) × (area′ ≡ d .box .area)
 
 abbrev pub ByOutcome : Collector → List ℕ → List ℕ → Option Out → Bool → List ℕ → List (Slot Key) → List ℕ → Type 0
 ByOutcome c report area none reported report′ slots area′ = (reported ≡ false) × (report′ ≡ report) × (slots ≡ slotsOf c) × (area′ ≡ area)
-ByOutcome c report area (some o) reported report′ slots area′ = (reported ≡ true) × (length report′ ≡ reportSize) × BySegment c area o (segmentAt o) report′ slots area′
+ByOutcome c report area (some o) reported report′ slots area′ = (reported ≡ true) × (length report′ ≡ reportSize) × BySegment c area o (segmentAt (c .edition) o) report′ slots area′
 
 pub record FeedChanges (c : Collector) (report area : List ℕ) (f : Receiver.Fed) (r : Fed) (report′ area′ : List ℕ) : Type 0 where
   pub eaten : r .eaten ≡ f .eaten

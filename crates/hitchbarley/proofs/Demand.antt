@@ -14,22 +14,22 @@ use Rattle.runs.specs.Offered.{Offer, Made, boxCalls, Offered}
 use Rattle.runs.specs.Offered.Offer.{call}
 use Rattle.runs.specs.Offered.Made.{feed, still, free}
 use Rattle.runs.proofs.Carrying.{Carries, Goes, carry}
+use Rattle.apdu.specs.declared.Edition.{Edition}
 use Rattle.trunk.specs.Reading.{heldOf}
 use Rattle.trunk.specs.Demand.{reading}
 use Rattle.rebuild.specs.View.{keys}
-use Rattle.rebuild.specs.declared.Slots.{Slots}
-use Rattle.rebuild.proofs.Seen.{view-unview, unview-view}
+use Rattle.rebuild.proofs.Seen.{view-unview}
 use Rattle.recordings.specs.Frames.{rules}
 use Rattle.reports.specs.Layout.{reportSize}
 use Rattle.collector.specs.Calls as Calls
 use Rattle.collector.specs.Calls.{box, slotsOf, saidSo, feedRefusal, feeding, silenceRefusal, stilling}
 use Rattle.collector.specs.Frame.{bacnet}
 use Rattle.collector.specs.Offering as Collecting
-use Rattle.collector.specs.Offering.{Passes, End, told, WithArea}
+use Rattle.collector.specs.Offering.{Passes, BoxEnd, End, inEdition, told, WithArea}
 use Rattle.collector.specs.declared.Collector.{Collector}
 use Rattle.collector.specs.declared.Fed.{Fed}
 use Rattle.collector.specs.declared.Fell.{Fell}
-use Rattle.collector.proofs.Alike.{Boxed, seen, called, called-by}
+use Rattle.collector.proofs.Alike.{Boxed, seen, SeenIn, called, called-by}
 use Rattle.collector.proofs.Demand.{demand3}
 use Rattle.records.specs.Flag.{flag}
 use Rattle.state.specs.Calls.{Loaded, Loads}
@@ -41,6 +41,7 @@ use Rattle.hitchbarley.specs.Trunk.{Left, stateBy, stateOf, passed, bar,
 use Rattle.hitchbarley.specs.Replay.{replayLeft, Replays}
 use Rattle.hitchbarley.specs.Offering.{Heard, toldBy, Areas, calls, Replaying, Calling, Linked}
 use Rattle.hitchbarley.specs.Offering.Calling.{made, replayed}
+use Rattle.hitchbarley.proofs.Passed.{whole}
 
 pub inside-is : (state : List ℕ) (c : Collector) → Loads state c → inside state ≡ c
 inside-is state c l = ap (λ (x : Loaded). x .state) l
@@ -57,14 +58,15 @@ feeds-carried state report area piece c l k m y =
     let d = feeding c report area piece in
     let i = inside-is state c l in
     let z : feedBar state report area ≡ 0 = rw (eq-eqb (length report) reportSize k, eq-eqb (length area) 65536 m, l) in
-    let q : feedLeft state report area piece ≡ passed (feedRefusal c report area) d report = rw (z, i) in (
+    let q : feedLeft state report area piece ≡ passed (c .edition) (feedRefusal c report area) d report = rw (z, i) in (
       saidSo (d .said),
-      stateOf d,
+      stateOf (c .edition) d,
       y .spoke ∙ ap (λ (x : Left). x .reported) q,
       record {
         refused = y .number ∙ ap (λ (x : Left). x .number) q;
         eaten = y .ate ∙ ap (λ (x : Left). x .eaten) q;
         reported = refl;
+        edition = refl;
         receiver = refl;
         slots = view-unview (d .slots);
         reportAfter = y .reportAfter ∙ ap (λ (x : Left). x .report) q;
@@ -84,13 +86,14 @@ stills-carried state report c l k y =
     let d = stilling c report [] in
     let i = inside-is state c l in
     let z : silenceBar state report ≡ 0 = rw (eq-eqb (length report) reportSize k, l) in
-    let q : silenceLeft state report ≡ passed (silenceRefusal c report) d report = rw (z, i) in (
+    let q : silenceLeft state report ≡ passed (c .edition) (silenceRefusal c report) d report = rw (z, i) in (
       saidSo (d .said),
-      stateOf d,
+      stateOf (c .edition) d,
       y .spoke ∙ ap (λ (x : Left). x .reported) q,
       record {
         refused = y .number ∙ ap (λ (x : Left). x .number) q;
         reported = refl;
+        edition = refl;
         receiver = refl;
         slots = view-unview (d .slots);
         reportAfter = y .reportAfter ∙ ap (λ (x : Left). x .report) q;
@@ -105,7 +108,7 @@ forgets-carried state n c l y =
     let i = inside-is state c l in
     let z : bar true state ≡ 0 = rw l in
     let q : forgetLeft state n .number ≡ forgetNumberOf c n = rw (z, i) in
-    (forgotten c n, record { number = y .number ∙ q; receiver = refl; slots = view-unview _ }, rw i at (y .again z))
+    (forgotten c n, record { number = y .number ∙ q; edition = refl; receiver = refl; slots = view-unview _ }, rw i at (y .again z))
 
 -- ---- every call is the collector's, between a state area that holds a state and that state
 told-flag : (reported : ℕ) (b : Bool) (x : List ℕ) → reported ≡ flag b → toldBy reported x ≡ told b x
@@ -156,25 +159,25 @@ linked =
           );
     }
 
--- ---- and so, by the box's: every call of either kind
-abbrev HoldsBox : Areas → Boxed → Type 0
-HoldsBox s x = (u : WithArea) × HoldsIt s u × (x ≡ seen u)
+-- ---- and so, by the box's of the state's edition: every call of either kind, and it leaves the edition
+abbrev HoldsBox : Edition → Areas → Boxed → Type 0
+HoldsBox d s x = (u : WithArea) × HoldsIt s u × SeenIn d u x
 
-abbrev BoxGoes : Boxed → Run → ℕ → Option (List ℕ) → Boxed → Type 0
-BoxGoes = Goes (Made (boxCalls box))
+abbrev BoxGoes : Edition → Boxed → Run → ℕ → Option (List ℕ) → Boxed → Type 0
+BoxGoes d = Goes (Made (boxCalls (box d)))
 
-made-goes : (s t : Areas) (x : Boxed) {lent : Run} {n : ℕ} {said : Option (List ℕ)} → HoldsBox s x → Made calls s lent n said t → (y : Boxed) × BoxGoes x lent n said y × HoldsBox t y
-made-goes s t x {n = n} {said = said} a (feed piece c) =
+made-goes : (d : Edition) (s t : Areas) (x : Boxed) {lent : Run} {n : ℕ} {said : Option (List ℕ)} → HoldsBox d s x → Made calls s lent n said t → (y : Boxed) × BoxGoes d x lent n said y × HoldsBox d t y
+made-goes d s t x {n = n} {said = said} a (feed piece c) =
     let w = linked .feeds s t (a .0) piece n said (a .1) c in
-    let y = called .feeds (a .0) (w .0) x piece n said (a .2) (w .1) in
+    let y = called d .feeds (a .0) (w .0) x piece n said (a .2) (w .1) in
     (y .0, (λ p run rs last o. call (octs piece) run (feed piece (y .1)) o), (w .0, w .2, y .2))
-made-goes s t x {said = said} a (still c) =
+made-goes d s t x {said = said} a (still c) =
     let w = linked .stills s t (a .0) said (a .1) c in
-    let y = called .stills (a .0) (w .0) x said (a .2) (w .1) in
+    let y = called d .stills (a .0) (w .0) x said (a .2) (w .1) in
     (y .0, (λ p run rs last o. call (trunk silence ∷ []) run (still (y .1)) o), (w .0, w .2, y .2))
-made-goes s t x a (free i c) =
+made-goes d s t x a (free i c) =
     let w = linked .forgets s t (a .0) i (a .1) c in
-    let y = called .forgets (a .0) (w .0) x i (a .2) (w .1) in
+    let y = called d .forgets (a .0) (w .0) x i (a .2) (w .1) in
     (y .0, (λ p run rs last o. call (forget i ∷ []) run (free i (y .1)) o), (w .0, w .2, y .2))
 
 -- a replay over octets is the replay of the state that they hold
@@ -186,14 +189,15 @@ replays-carried state report area o c l k m y =
     let d = playing c report area o in
     let i = inside-is state c l in
     let z : feedBar state report area ≡ 0 = rw (eq-eqb (length report) reportSize k, eq-eqb (length area) 65536 m, l) in
-    let q : replayLeft state report area o ≡ passed (d .number) (d .left) report = rw (z, i) in (
+    let q : replayLeft state report area o ≡ passed (c .edition) (d .number) (d .left) report = rw (z, i) in (
       saidSo (d .left .said),
-      stateOf (d .left),
+      stateOf (c .edition) (d .left),
       y .spoke ∙ ap (λ (x : Left). x .reported) q,
       record {
         refused = y .number ∙ ap (λ (x : Left). x .number) q;
         eaten = y .ate ∙ ap (λ (x : Left). x .eaten) q;
         reported = refl;
+        edition = refl;
         receiver = refl;
         slots = view-unview (d .left .slots);
         reportAfter = y .reportAfter ∙ ap (λ (x : Left). x .report) q;
@@ -202,8 +206,8 @@ replays-carried state report area o c l k m y =
       rw i at (y .again z),
     )
 
-replay-goes : (s t : Areas) (x : Boxed) {lent : Run} {n : ℕ} {said : Option (List ℕ)} → HoldsBox s x → Replaying s lent n said t → (y : Boxed) × BoxGoes x lent n said y × HoldsBox t y
-replay-goes s t x {lent} {n} {said} a h =
+replay-goes : (d : Edition) (s t : Areas) (x : Boxed) {lent : Run} {n : ℕ} {said : Option (List ℕ)} → HoldsBox d s x → Replaying s lent n said t → (y : Boxed) × BoxGoes d x lent n said y × HoldsBox d t y
+replay-goes d s t x {lent} {n} {said} a h =
     let u = a .0 in
     let g = replays-carried (s .0) (h .report) (s .1) (recordOctets lent ++ h .behind) (u .0) (a .1 .0) (h .sixteen) (h .sized) (h .promise) in
     let c : Playback.Replaying u lent n said (g .1, t .1) = record {
@@ -218,28 +222,29 @@ replay-goes s t x {lent} {n} {said} a h =
       says = h .says ∙ told-flag (h .reported) (g .0) (h .report′) (g .2);
       leaves = refl;
     } in
-    let y = Replay.step u (g .1, t .1) x lent n said (a .2) c in
+    let y = Replay.step d u (g .1, t .1) x lent n said (a .2) c in
     (y .0, y .1, ((g .1, t .1), (g .4, refl), y .2))
 
-goes : (s t : Areas) (x : Boxed) (lent : Run) (n : ℕ) (said : Option (List ℕ)) → HoldsBox s x → Calling s lent n said t → (y : Boxed) × BoxGoes x lent n said y × HoldsBox t y
-goes s t x lent n said a (made c) = made-goes s t x a c
-goes s t x lent n said a (replayed c) = replay-goes s t x a c
+goes : (d : Edition) (s t : Areas) (x : Boxed) (lent : Run) (n : ℕ) (said : Option (List ℕ)) → HoldsBox d s x → Calling s lent n said t → (y : Boxed) × BoxGoes d x lent n said y × HoldsBox d t y
+goes d s t x lent n said a (made c) = made-goes d s t x a c
+goes d s t x lent n said a (replayed c) = replay-goes d s t x a c
 
--- "Then reports, final state and message area are those that a reading of the whole recording by position gives."
+-- "Then reports, final state and message area are those that a reading of the whole recording by position gives." The last state names the edition.
 pub octets-demand3 : (state : List ℕ) (c : Collector) (area : List ℕ) → Loads state c → Passes c → length area ≡ 65536 → (run : Run) (h : Heard)
     → Linked (length (heldOf (c .receiver))) state area run h
-    → (let e = reading (rules keys bacnet) (c .receiver) (slotsOf c) area run in
-    (h .reports ≡ e .reports) × (h .area ≡ e .area) × Loads (h .state) (stateBy (e .state) (e .slots)))
+    → (let e = reading (rules keys (bacnet (c .edition))) (c .receiver) (slotsOf c) area run in
+    (h .reports ≡ e .reports) × (h .area ≡ e .area) × Loads (h .state) (stateBy (c .edition) (e .state) (e .slots)))
 octets-demand3 state c area l P z run h o =
-    let t = carry Calling (Made (boxCalls box)) HoldsBox goes {u = seen (c, area)} ((c, area), (l, refl), refl) o in
+    let ruled = box (c .edition) in
+    let t = carry Calling (Made (boxCalls ruled)) (HoldsBox (c .edition)) (goes (c .edition)) {u = seen (c, area)} ((c, area), (l, refl), (refl, refl)) o in
     let u = t .2 .0 in
     let d = u .0 in
-    let e : End = ends (h .reports) (d .receiver) (slotsOf d) (u .1) in
-    let back : Offered box (length (heldOf (c .receiver))) (c .receiver) (slotsOf c) area run e =
-    subst (λ (y : Boxed). Offer (Made (boxCalls box)) (length (heldOf (c .receiver))) (seen (c, area)) run (h .reports) y) (t .2 .2) (t .1) in
-    let q : e ≡ reading (rules keys bacnet) (c .receiver) (slotsOf c) area run = demand3 c area P z (called-by back) in
-    let same : d ≡ stateBy (d .receiver) (slotsOf d) = ap (λ (x : Slots). record { receiver = d .receiver; slots = x }) (sym (unview-view (d .slots))) in (
+    let e : BoxEnd = ends (h .reports) (d .receiver) (slotsOf d) (u .1) in
+    let back : Offered ruled (length (heldOf (c .receiver))) (c .receiver) (slotsOf c) area run e =
+    subst (λ (y : Boxed). Offer (Made (boxCalls ruled)) (length (heldOf (c .receiver))) (seen (c, area)) run (h .reports) y) (t .2 .2 .1) (t .1) in
+    let q : inEdition (c .edition) e ≡ inEdition (c .edition) (reading (rules keys (bacnet (c .edition))) (c .receiver) (slotsOf c) area run) = demand3 c area P z (called-by back) in
+    let same : d ≡ stateBy (c .edition) (d .receiver) (slotsOf d) = whole d (c .edition) (d .receiver) (slotsOf d) (t .2 .2 .0) refl refl in (
       ap (λ (x : End). x .reports) q,
       sym (t .2 .1 .1) ∙ ap (λ (x : End). x .area) q,
-      subst (λ (x : End). Loads (h .state) (stateBy (x .state) (x .slots))) q (subst (Loads (h .state)) same (t .2 .1 .0)),
+      subst (λ (x : End). Loads (h .state) (stateBy (x .state .0) (x .state .1) (x .slots))) q (subst (Loads (h .state)) same (t .2 .1 .0)),
     )

@@ -9,6 +9,7 @@ use lib.ListN.{length, length-map, length-replicate}
 use borrow.Author.Tests.{eq-eqb, eqb-true}
 use Rattle.octets.specs.Choice.{pick, pick-case, pick-cases, pick-so, by-test, both, both-left}
 use Rattle.octets.specs.Reading.{Octets}
+use Rattle.apdu.specs.declared.Edition.{Edition}
 use Rattle.frames.specs.declared.Fell.{Fell}
 use Rattle.frames.specs.declared.Receiver.{Receiver}
 use Rattle.frames.specs.Step.{soundOf, feedOf, silenceOf, stillOf}
@@ -29,22 +30,22 @@ use Rattle.state.proofs.Whole.{Shaped, fits-shaped}
 use Rattle.state.proofs.Exact.{accepted, loads-only, shaped-loads}
 use Rattle.hitchbarley.specs.Trunk.{stateBy, stateOf, bar, inside, feedBar, feedLeft, silenceBar, silenceLeft, forgotten, forgetLeft, Feeds, Stills, Forgets}
 
-by-shape : (r : Receiver) (s : List (Messages.Slot Key)) → length (r .link .head) ≡ 5 → length (r .store) ≡ 501 → length s ≡ 4 → Shaped (stateBy r s)
-by-shape r s head store four = record { head = head; store = store; four = length-map s back ∙ four }
+by-shape : (d : Edition) (r : Receiver) (s : List (Messages.Slot Key)) → length (r .link .head) ≡ 5 → length (r .store) ≡ 501 → length s ≡ 4 → Shaped (stateBy d r s)
+by-shape d r s head store four = record { head = head; store = store; four = length-map s back ∙ four }
 
 -- slots that 59 passes are four
-passing-shape : (r : Receiver) (s : List (Messages.Slot Key)) → length (r .link .head) ≡ 5 → length (r .store) ≡ 501 → passing s ≡ true → Shaped (stateBy r s)
-passing-shape r s head store p = by-shape r s head store (eqb-true (length s) 4 (both-left _ _ p))
+passing-shape : (d : Edition) (r : Receiver) (s : List (Messages.Slot Key)) → length (r .link .head) ≡ 5 → length (r .store) ≡ 501 → passing s ≡ true → Shaped (stateBy d r s)
+passing-shape d r s head store p = by-shape d r s head store (eqb-true (length s) 4 (both-left _ _ p))
 
 module _ (c : Collector) (f : Shaped c) where
   -- unmoved
-  same-shaped : Shaped (stateBy (c .receiver) (slotsOf c))
-  same-shaped = subst Shaped (ap (λ (t : Slots). record { receiver = c .receiver; slots = t }) (sym (unview-view (c .slots)))) f
+  same-shaped : Shaped (stateBy (c .edition) (c .receiver) (slotsOf c))
+  same-shaped = subst Shaped (ap (λ (t : Slots). record { edition = c .edition; receiver = c .receiver; slots = t }) (sym (unview-view (c .slots)))) f
 
   slots-four : length (slotsOf c) ≡ 4
   slots-four = sym (length-map (slotsOf c) back) ∙ same-shaped .four
 
-  fed-shaped : (area piece : List ℕ) → Shaped (stateOf (box .feed (c .receiver) (slotsOf c) area piece))
+  fed-shaped : (area piece : List ℕ) → Shaped (stateOf (c .edition) (box (c .edition) .feed (c .receiver) (slotsOf c) area piece))
   unfolding feedOf
   fed-shaped area piece =
       by-test (sized area)
@@ -52,34 +53,34 @@ module _ (c : Collector) (f : Shaped c) where
       (λ p. by-test (soundOf (c .receiver))
       (λ o.
       let F : Fair (c .receiver) (slotsOf c) area = record { receiver = record { left = o; head = f .head; store = f .store }; slots = p; area = z } in
-      let d = box .feed (c .receiver) (slotsOf c) area piece in
-      let G = feed-fair F piece in
-      passing-shape (d .state) (d .slots) (G .receiver .head) (G .receiver .store) (G .slots))
+      let d = box (c .edition) .feed (c .receiver) (slotsOf c) area piece in
+      let G = feed-fair (c .edition) F piece in
+      passing-shape (c .edition) (d .state) (d .slots) (G .receiver .head) (G .receiver .store) (G .slots))
       (λ o. rw (z, p, o) same-shaped))
       (λ p. rw (z, p) same-shaped))
       (λ z. rw z same-shaped)
 
-  pub feeding-shaped : (report area piece : List ℕ) → Shaped (stateOf (feeding c report area piece))
+  pub feeding-shaped : (report area piece : List ℕ) → Shaped (stateOf (c .edition) (feeding c report area piece))
   unfolding feeding
-  feeding-shaped report area piece = pick-case (λ (d : Answered). Shaped (stateOf d)) (eqb (length report) reportSize) (fed-shaped area piece) same-shaped
+  feeding-shaped report area piece = pick-case (λ (d : Answered). Shaped (stateOf (c .edition) d)) (eqb (length report) reportSize) (fed-shaped area piece) same-shaped
 
-  silent-shaped : Shaped (stateBy (silenceOf (c .receiver) .receiver) (slotsOf c))
+  silent-shaped : Shaped (stateBy (c .edition) (silenceOf (c .receiver) .receiver) (slotsOf c))
   unfolding silenceOf stillOf
   silent-shaped =
-      pick-case (λ (x : Fell). Shaped (stateBy (x .receiver) (slotsOf c))) (soundOf (c .receiver))
-      (by-shape _ (slotsOf c) (f .head) (f .store) slots-four) same-shaped
+      pick-case (λ (x : Fell). Shaped (stateBy (c .edition) (x .receiver) (slotsOf c))) (soundOf (c .receiver))
+      (by-shape _ _ (slotsOf c) (f .head) (f .store) slots-four) same-shaped
 
-  pub stilling-shaped : (report : List ℕ) → Shaped (stateOf (stilling c report []))
+  pub stilling-shaped : (report : List ℕ) → Shaped (stateOf (c .edition) (stilling c report []))
   unfolding stilling
   stilling-shaped report =
-      pick-case (λ (d : Answered). Shaped (stateOf d)) (eqb (length report) reportSize)
-      (pick-case (λ (d : Answered). Shaped (stateOf d)) (passing (slotsOf c)) silent-shaped same-shaped) same-shaped
+      pick-case (λ (d : Answered). Shaped (stateOf (c .edition) d)) (eqb (length report) reportSize)
+      (pick-case (λ (d : Answered). Shaped (stateOf (c .edition) d)) (passing (slotsOf c)) silent-shaped same-shaped) same-shaped
 
   pub forgotten-shaped : (n : ℕ) → Shaped (forgotten c n)
   forgotten-shaped n =
-      pick-cases (λ (s : List (Messages.Slot Key)). Shaped (stateBy (c .receiver) s)) (passing (slotsOf c))
-      (λ p. pick-case (λ (s : List (Messages.Slot Key)). Shaped (stateBy (c .receiver) s)) (soundOf (c .receiver))
-      (passing-shape (c .receiver) (rules keys bacnet .free n (slotsOf c)) (f .head) (f .store) (keeps .free n (slotsOf c) p)) same-shaped)
+      pick-cases (λ (s : List (Messages.Slot Key)). Shaped (stateBy (c .edition) (c .receiver) s)) (passing (slotsOf c))
+      (λ p. pick-case (λ (s : List (Messages.Slot Key)). Shaped (stateBy (c .edition) (c .receiver) s)) (soundOf (c .receiver))
+      (passing-shape (c .edition) (c .receiver) (rules keys (bacnet (c .edition)) .free n (slotsOf c)) (f .head) (f .store) (keeps (c .edition) .free n (slotsOf c) p)) same-shaped)
       (λ _. same-shaped)
 
 -- an area that was loaded holds a state
@@ -126,8 +127,8 @@ module _ (state : List ℕ) (os : Octets state) where
       }
 
 -- a fresh state
-fresh-shaped : Shaped freshCollector
-fresh-shaped = record { head = length-replicate {A = ℕ} 5 0; store = length-replicate {A = ℕ} 501 0; four = refl }
+fresh-shaped : (d : Edition) → Shaped (freshCollector d)
+fresh-shaped d = record { head = length-replicate {A = ℕ} 5 0; store = length-replicate {A = ℕ} 501 0; four = refl }
 
-pub saves-some : (state : List ℕ) → Saves freshCollector state (pick (eqb (length state) stateSize) 0 60) (pick (eqb (length state) stateSize) (stateOctets freshCollector) state)
-saves-some state = record { answer = refl; after = refl; again = λ z. rw (eq-eqb _ stateSize z) (shaped-loads freshCollector fresh-shaped) }
+pub saves-some : (d : Edition) (state : List ℕ) → Saves (freshCollector d) state (pick (eqb (length state) stateSize) 0 60) (pick (eqb (length state) stateSize) (stateOctets (freshCollector d)) state)
+saves-some d state = record { answer = refl; after = refl; again = λ z. rw (eq-eqb _ stateSize z) (shaped-loads (freshCollector d) (fresh-shaped d)) }

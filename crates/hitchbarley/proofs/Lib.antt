@@ -9,3 +9,4 @@ pub mod One
 pub mod Kept
 pub mod Demand
 pub mod Offerable
+pub mod Editions

@@ -1,12 +1,13 @@
 -- How the calls of a trunk come to what they promise: a refusal before the collector's call, or that call over what the state area holds.
 use Prim.Native.Nat.{ℕ}
-use mathlib.Core.Path.{_≡_, refl, sym, ap, _∙_}
+use mathlib.Core.Path.{_≡_, refl, sym, ap, subst, _∙_}
 use mathlib.Core.Bool.{true, false}
 use mathlib.Core.List.{List, [], _++_}
 use lib.ListN.{length, take, drop}
 use native.Mathlib.Omega.{arith}
 use borrow.Author.Tests.{eq-eqb, ne-eqb}
 use Rattle.octets.specs.Reading.{Octets}
+use Rattle.apdu.specs.declared.Edition.{Edition}
 use Rattle.frames.specs.declared.Receiver.{Receiver}
 use Rattle.messages.specs.Slots as Messages
 use Rattle.rebuild.specs.View.{unview}
@@ -23,6 +24,7 @@ use Rattle.collector.specs.declared.lent.Hushed.{Hushed}
 use Rattle.collector.specs.declared.lent.Freed.{Freed}
 use Rattle.records.specs.Flag.{flag}
 use Rattle.state.specs.Link.{linkSize, linkOctets}
+use Rattle.state.specs.Edition.{editionOf}
 use Rattle.state.specs.Layout.{storePlace, storeSize, slotsPlace, slotsSize, stateSize, storePart, slotsOctets, stateOctets}
 use Rattle.state.specs.Calls.{loadOf, liftOf, Lays, Saves}
 use Rattle.state.specs.declared.Lifted.{Lifted}
@@ -31,10 +33,10 @@ use Rattle.state.proofs.Places.{Holds, accepted-holds, holds-octets, holds-load
 use Rattle.hitchbarley.specs.Trunk.{Left, barred, stateBy, stateOf, passed, bar, inside, feedBar, feedLeft, silenceBar, silenceLeft, forgetNumberOf, forgotten, forgetLeft, Feeds, Stills, Forgets}
 
 -- a state by its parts
-pub whole : (c : Collector) (r : Receiver) (s : List (Messages.Slot Key)) → c .receiver ≡ r → slotsOf c ≡ s → c ≡ stateBy r s
-whole c r s e f =
+pub whole : (c : Collector) (d : Edition) (r : Receiver) (s : List (Messages.Slot Key)) → c .edition ≡ d → c .receiver ≡ r → slotsOf c ≡ s → c ≡ stateBy d r s
+whole c d r s g e f =
     let t : c .slots ≡ unview s = sym (unview-view (c .slots)) ∙ ap unview f in
-    rw (← e, ← t)
+    rw (← g, ← e, ← t)
 
 -- what is left by equal answers
 pub number-of : {a b : Left} → a ≡ b → b .number ≡ a .number
@@ -55,14 +57,14 @@ report-of e = sym (ap (λ (d : Left). d .report) e)
 pub area-of : {a b : Left} → a ≡ b → b .area ≡ a .area
 area-of e = sym (ap (λ (d : Left). d .area) e)
 
--- what is lifted: link and slots by value, the store in its place
-pub lifted-holds : (state : List ℕ) → Octets state → {w : Lifted} → w ≡ liftOf state → w .refused ≡ 0 → Holds state (over (w .link) (w .slots) (storePart state))
+-- what is lifted: edition, link and slots by value, the store in its place
+pub lifted-holds : (state : List ℕ) → Octets state → {w : Lifted} → w ≡ liftOf state → w .refused ≡ 0 → Holds state (over (w .edition) (w .link) (w .slots) (storePart state))
 unfolding liftOf
 lifted-holds state os e z =
     let y : loadOf state .refused ≡ 0 = rw e at z in
     rw (e, accepted-store state y) (accepted-holds state os y)
 
-pub lifted-inside : (state : List ℕ) {w : Lifted} → w ≡ liftOf state → w .refused ≡ 0 → over (w .link) (w .slots) (storePart state) ≡ inside state
+pub lifted-inside : (state : List ℕ) {w : Lifted} → w ≡ liftOf state → w .refused ≡ 0 → over (w .edition) (w .link) (w .slots) (storePart state) ≡ inside state
 unfolding liftOf
 lifted-inside state e z =
     let y : loadOf state .refused ≡ 0 = rw e at z in
@@ -77,8 +79,8 @@ unfolding liftOf
 lifted-number state e = sym (ap (λ (x : Lifted). x .refused) e)
 
 -- ---- a fresh state
-pub saves-fresh : (c : Collector) → c ≡ freshCollector → (area : List ℕ) (r : ℕ) (later : List ℕ) → Saves c area r later → Saves freshCollector area r later
-saves-fresh c e area r later h = rw (← e) h
+pub saves-fresh : (x : ℕ) {d : Edition} → d ≡ editionOf x → (c : Collector) → c ≡ freshCollector d → (area : List ℕ) (r : ℕ) (later : List ℕ) → Saves c area r later → Saves (freshCollector (editionOf x)) area r later
+saves-fresh x q c e area r later h = rw (← q, ← e) h
 
 -- ---- feeding
 module _ (state report area piece : List ℕ) where
@@ -112,16 +114,16 @@ module _ (state report area piece : List ℕ) where
     pub feeds-not : (w .refused ≡ 0 → ⊥) → Feeds state report area piece (w .refused) 0 0 state report area
     feeds-not h = feeds-barred (w .refused) sizes h
 
-    pub feeds-on : w .refused ≡ 0 → {f : Ate} {t : Slots} {s state′ report′ area′ : List ℕ} → Eats (w .link) (w .slots) (storePart state) report area piece f s report′ area′
-        → f .slots ≡ t → Holds state′ (over (f .link) t s) → Feeds state report area piece (f .refused) (f .eaten) (flag (f .reported)) state′ report′ area′
+    pub feeds-on : w .refused ≡ 0 → {f : Ate} {t : Slots} {s state′ report′ area′ : List ℕ} → Eats (w .edition) (w .link) (w .slots) (storePart state) report area piece f s report′ area′
+        → f .slots ≡ t → Holds state′ (over (w .edition) (f .link) t s) → Feeds state report area piece (f .refused) (f .eaten) (flag (f .reported)) state′ report′ area′
     unfolding feedLeft
     feeds-on z {f} {t} {s} {state′} {report′} {area′} y g h =
         let d = feeding (inside state) report area piece in
-        let c : Collector = fedOver f s .state in
-        let y′ : Calls.Feeds (inside state) report area piece (fedOver f s) report′ area′ = rw (lifted-inside state e z) at (y .feeds) in
-        let q : feedLeft state report area piece ≡ passed (feedRefusal (inside state) report area) d report = rw (sizes, z) in
-        let v : c ≡ stateOf d = whole c (d .state) (d .slots) (y′ .receiver) (y′ .slots) in
-        let h′ : Holds state′ (stateOf d) = rw (← v, g) h in
+        let c : Collector = fedOver (w .edition) f s .state in
+        let y′ = subst (λ (x : Collector). Calls.Feeds x report area piece (fedOver (w .edition) f s) report′ area′) (lifted-inside state e z) (y .feeds) in
+        let q : feedLeft state report area piece ≡ passed (inside state .edition) (feedRefusal (inside state) report area) d report = rw (sizes, z) in
+        let v : c ≡ stateOf (inside state .edition) d = whole c _ (d .state) (d .slots) (y′ .edition) (y′ .receiver) (y′ .slots) in
+        let h′ : Holds state′ (stateOf (inside state .edition) d) = rw (← v, g) h in
         record {
           number = y′ .refused ∙ number-of q;
           ate = y′ .eaten ∙ eaten-of q;
@@ -133,12 +135,12 @@ module _ (state report area piece : List ℕ) where
         }
 
     -- with store and link laid back; slots that have moved are laid too, others are those that were there
-    pub feeds-stayed : Octets state → w .refused ≡ 0 → {f : Ate} {r : ℕ} {s state′ report′ area′ : List ℕ} → Eats (w .link) (w .slots) (storePart state) report area piece f s report′ area′
+    pub feeds-stayed : Octets state → w .refused ≡ 0 → {f : Ate} {r : ℕ} {s state′ report′ area′ : List ℕ} → Eats (w .edition) (w .link) (w .slots) (storePart state) report area piece f s report′ area′
         → length s ≡ storeSize → Lays 0 linkSize (linkOctets (f .link)) (take storePlace state ++ (s ++ drop storeSize (drop storePlace state))) r state′ → f .moved ≡ false
         → Feeds state report area piece (f .refused) (f .eaten) (flag (f .reported)) state′ report′ area′
     feeds-stayed os z {s = s} y n d g = feeds-on z y (y .kept g) (link-over (store-over (lifted-holds state os e z) s n) d)
 
-    pub feeds-moved : Octets state → w .refused ≡ 0 → {f : Ate} {r r′ : ℕ} {s linked state′ report′ area′ : List ℕ} → Eats (w .link) (w .slots) (storePart state) report area piece f s report′ area′
+    pub feeds-moved : Octets state → w .refused ≡ 0 → {f : Ate} {r r′ : ℕ} {s linked state′ report′ area′ : List ℕ} → Eats (w .edition) (w .link) (w .slots) (storePart state) report area piece f s report′ area′
         → length s ≡ storeSize → Lays 0 linkSize (linkOctets (f .link)) (take storePlace state ++ (s ++ drop storeSize (drop storePlace state))) r linked
         → Lays slotsPlace slotsSize (slotsOctets (f .slots .slots)) linked r′ state′ → Feeds state report area piece (f .refused) (f .eaten) (flag (f .reported)) state′ report′ area′
     feeds-moved os z {s = s} y n d d′ = feeds-on z y refl (slots-over (link-over (store-over (lifted-holds state os e z) s n) d) d′)
@@ -164,16 +166,16 @@ module _ (state report : List ℕ) where
     stills-not h = stills-barred (w .refused) silence-sizes h
 
     pub stills-on : w .refused ≡ 0 → {f : Hushed} {state′ report′ : List ℕ} → Hushes (w .link) (w .slots) report f report′
-        → Holds state′ (over (f .link) (w .slots) (storePart state)) → Stills state report (f .refused) (flag (f .reported)) state′ report′
+        → Holds state′ (over (w .edition) (f .link) (w .slots) (storePart state)) → Stills state report (f .refused) (flag (f .reported)) state′ report′
     unfolding silenceLeft
     stills-on z {f} {state′} {report′} y h =
         let s = storePart state in
         let d = stilling (inside state) report [] in
-        let c : Collector = fellOver f (w .slots) s .state in
-        let y′ : Calls.Stills (inside state) report (fellOver f (w .slots) s) report′ = rw (lifted-inside state e z) at (y s) in
-        let q : silenceLeft state report ≡ passed (silenceRefusal (inside state) report) d report = rw (silence-sizes, z) in
-        let v : c ≡ stateOf d = whole c (d .state) (d .slots) (y′ .receiver) (y′ .slots) in
-        let h′ : Holds state′ (stateOf d) = rw (← v) h in
+        let c : Collector = fellOver (w .edition) f (w .slots) s .state in
+        let y′ = subst (λ (x : Collector). Calls.Stills x report (fellOver (w .edition) f (w .slots) s) report′) (lifted-inside state e z) (y (w .edition) s) in
+        let q : silenceLeft state report ≡ passed (inside state .edition) (silenceRefusal (inside state) report) d report = rw (silence-sizes, z) in
+        let v : c ≡ stateOf (inside state .edition) d = whole c _ (d .state) (d .slots) (y′ .edition) (y′ .receiver) (y′ .slots) in
+        let h′ : Holds state′ (stateOf (inside state .edition) d) = rw (← v) h in
         record {
           number = y′ .refused ∙ number-of q;
           spoke = ap flag (y′ .reported) ∙ reported-of q;
@@ -199,15 +201,15 @@ module _ (state : List ℕ) (i : ℕ) (w : Lifted) (e : w ≡ liftOf state) wher
       let q : forgetLeft state i ≡ barred (w .refused) state [] [] = rw (forget-sizes, ne-eqb (w .refused) 0 h) in
       record { number = number-of q; stateAfter = state-of q; again = λ z. absurd (h (sym forget-sizes ∙ z)) }
 
-  pub forgets-on : w .refused ≡ 0 → {f : Freed} {state′ : List ℕ} → Frees (w .link) (w .slots) i f → Holds state′ (over (w .link) (f .slots) (storePart state))
+  pub forgets-on : w .refused ≡ 0 → {f : Freed} {state′ : List ℕ} → Frees (w .link) (w .slots) i f → Holds state′ (over (w .edition) (w .link) (f .slots) (storePart state))
       → Forgets state i (f .number) state′
   unfolding forgetLeft forgetNumberOf
   forgets-on z {f} {state′} y h =
       let s = storePart state in
-      let y′ : Calls.Forgets (inside state) i (forgotOver f (w .link) s) = rw (lifted-inside state e z) at (y s) in
+      let y′ = subst (λ (x : Collector). Calls.Forgets x i (forgotOver (w .edition) f (w .link) s)) (lifted-inside state e z) (y (w .edition) s) in
       let q : forgetLeft state i ≡ record { number = forgetNumberOf (inside state) i; eaten = 0; reported = 0; state = stateOctets (forgotten (inside state) i); report = []; area = [] } = rw (forget-sizes, z) in
-      let c : Collector = forgotOver f (w .link) s .state in
-      let v : c ≡ forgotten (inside state) i = whole c _ _ (y′ .receiver) (y′ .slots) in
+      let c : Collector = forgotOver (w .edition) f (w .link) s .state in
+      let v : c ≡ forgotten (inside state) i = whole c _ _ _ (y′ .edition) (y′ .receiver) (y′ .slots) in
       let h′ : Holds state′ (forgotten (inside state) i) = rw (← v) h in
       record { number = y′ .number ∙ number-of q; stateAfter = holds-octets h′ ∙ state-of q; again = λ b. holds-loads h′ }
 

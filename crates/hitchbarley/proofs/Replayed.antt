@@ -1,6 +1,6 @@
 -- How a replay over octets comes to what it promises: a refusal before it, or the replay over what the state area holds.
 use Prim.Native.Nat.{ℕ}
-use mathlib.Core.Path.{_≡_, refl, sym, ap, _∙_}
+use mathlib.Core.Path.{_≡_, refl, sym, ap, subst, _∙_}
 use mathlib.Core.Bool.{false}
 use mathlib.Core.List.{List, [], _++_}
 use lib.ListN.{length, take, drop}
@@ -52,16 +52,16 @@ module _ (state report area o : List ℕ) where
     pub replays-not : (w .refused ≡ 0 → ⊥) → Replays state report area o (w .refused) 0 0 state report area
     replays-not h = replays-barred (w .refused) (sizes state report area [] k m w e) h
 
-    replays-on : w .refused ≡ 0 → {f : Went} {t : Slots} {s state′ report′ area′ : List ℕ} → Lent.Replays (w .link) (w .slots) (storePart state) report area o f s report′ area′
-        → f .slots ≡ t → Holds state′ (over (f .link) t s) → Replays state report area o (f .refused) (f .eaten) (flag (f .reported)) state′ report′ area′
+    replays-on : w .refused ≡ 0 → {f : Went} {t : Slots} {s state′ report′ area′ : List ℕ} → Lent.Replays (w .edition) (w .link) (w .slots) (storePart state) report area o f s report′ area′
+        → f .slots ≡ t → Holds state′ (over (w .edition) (f .link) t s) → Replays state report area o (f .refused) (f .eaten) (flag (f .reported)) state′ report′ area′
     unfolding replayLeft
     replays-on z {f} {t} {s} {state′} {report′} {area′} y g h =
         let d = cameTo state report area o in
-        let c : Collector = wentOver f s .state in
-        let y′ : Plays (inside state) report area o (wentOver f s) report′ area′ = rw (lifted-inside state e z) at (y .plays) in
-        let q : replayLeft state report area o ≡ passed (d .number) (d .left) report = rw (sizes state report area [] k m w e, z) in
-        let v : c ≡ stateOf (d .left) = whole c (d .left .state) (d .left .slots) (y′ .receiver) (y′ .slots) in
-        let h′ : Holds state′ (stateOf (d .left)) = rw (← v, g) h in
+        let c : Collector = wentOver (w .edition) f s .state in
+        let y′ = subst (λ (x : Collector). Plays x report area o (wentOver (w .edition) f s) report′ area′) (lifted-inside state e z) (y .plays) in
+        let q : replayLeft state report area o ≡ passed (inside state .edition) (d .number) (d .left) report = rw (sizes state report area [] k m w e, z) in
+        let v : c ≡ stateOf (inside state .edition) (d .left) = whole c _ (d .left .state) (d .left .slots) (y′ .edition) (y′ .receiver) (y′ .slots) in
+        let h′ : Holds state′ (stateOf (inside state .edition) (d .left)) = rw (← v, g) h in
         record {
           number = y′ .refused ∙ number-of q;
           ate = y′ .eaten ∙ eaten-of q;
@@ -73,12 +73,12 @@ module _ (state report area o : List ℕ) where
         }
 
     -- with store and link laid back; slots that have moved are laid too, others are those that were there
-    pub replays-stayed : Octets state → w .refused ≡ 0 → {f : Went} {r : ℕ} {s state′ report′ area′ : List ℕ} → Lent.Replays (w .link) (w .slots) (storePart state) report area o f s report′ area′
+    pub replays-stayed : Octets state → w .refused ≡ 0 → {f : Went} {r : ℕ} {s state′ report′ area′ : List ℕ} → Lent.Replays (w .edition) (w .link) (w .slots) (storePart state) report area o f s report′ area′
         → length s ≡ storeSize → Lays 0 linkSize (linkOctets (f .link)) (take storePlace state ++ (s ++ drop storeSize (drop storePlace state))) r state′ → f .moved ≡ false
         → Replays state report area o (f .refused) (f .eaten) (flag (f .reported)) state′ report′ area′
     replays-stayed os z {s = s} y n d g = replays-on z y (y .kept g) (link-over (store-over (lifted-holds state os e z) s n) d)
 
-    pub replays-moved : Octets state → w .refused ≡ 0 → {f : Went} {r r′ : ℕ} {s linked state′ report′ area′ : List ℕ} → Lent.Replays (w .link) (w .slots) (storePart state) report area o f s report′ area′
+    pub replays-moved : Octets state → w .refused ≡ 0 → {f : Went} {r r′ : ℕ} {s linked state′ report′ area′ : List ℕ} → Lent.Replays (w .edition) (w .link) (w .slots) (storePart state) report area o f s report′ area′
         → length s ≡ storeSize → Lays 0 linkSize (linkOctets (f .link)) (take storePlace state ++ (s ++ drop storeSize (drop storePlace state))) r linked
         → Lays slotsPlace slotsSize (slotsOctets (f .slots .slots)) linked r′ state′ → Replays state report area o (f .refused) (f .eaten) (flag (f .reported)) state′ report′ area′
     replays-moved os z {s = s} y n d d′ = replays-on z y refl (slots-over (link-over (store-over (lifted-holds state os e z) s n) d) d′)

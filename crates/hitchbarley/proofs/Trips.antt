@@ -25,6 +25,7 @@ use Rattle.apdu.proofs.Exact.{written-reads-back, read-writes-back}
 use Rattle.apdu.proofs.Headers.{header-length}
 use Rattle.apdu.specs.Reading.{readApdu}
 use Rattle.apdu.specs.Fault as Apdu
+use Rattle.apdu.specs.declared.Edition.{Edition}
 use Rattle.apdu.specs.declared.Pdu.{Pdu}
 use Rattle.apdu.specs.declared.Answer.the-variants.{Good}
 use Rattle.services.specs.Reading.{readService}
@@ -56,10 +57,10 @@ npdu-again s os z =
     let n : readNpdu s .next ≡ length (encode h) = ap (λ (r : Reading). r .next) (reads-shown s os z) in
     (npdu-sized (npduRecord h) (npdu-size h (w .kept)) ∙ ap Npdu.faultOf b ∙ ruled-fine h (w .ruled), ap encode b ∙ rw n (sym (has-cut s 0 (encode h) (w .stands))))
 
-pub apdu-again : (s : List ℕ) (p : Pdu) → readApdu s ≡ Good p → (apduFault (apduRecord p) ≡ 0) × (header (apduAt (apduRecord p)) ≡ take (paramsAt p) s)
-apdu-again s p e =
-    let b = read-writes-back s p e in (
-      apdu-sized (apduRecord p) (apdu-size p) (apdu-type-most p) ∙ ap Apdu.faultOf (apdu-back p) ∙ b .0,
+pub apdu-again : (d : Edition) (s : List ℕ) (p : Pdu) → readApdu d s ≡ Good p → (apduFault d (apduRecord p) ≡ 0) × (header (apduAt (apduRecord p)) ≡ take (paramsAt p) s)
+apdu-again d s p e =
+    let b = read-writes-back d s p e in (
+      apdu-sized d (apduRecord p) (apdu-size p) (apdu-type-most p) ∙ ap (Apdu.faultOf d) (apdu-back p) ∙ b .0,
       ap header (apdu-back p) ∙ sym (rw (← b .1) (take-at (header p) (drop (paramsAt p) s) (paramsAt p) (header-length p))),
     )
 
@@ -70,12 +71,12 @@ npdu-reads o t z =
     let p = pick-so (eqb (length o) 29) (Npdu.faultOf (npduAt o)) 60 0 (λ w. omega arith) z in
     reads-written (npduAt o) t (fault-none (npduAt o) (p .1)) (npdu-kept o (eqb-true (length o) 29 (p .0)))
 
-pub apdu-reads : (o t : List ℕ) → apduFault o ≡ 0 → Follows (apduAt o) t → readApdu (header (apduAt o) ++ t) ≡ Good (Apdu.shown (apduAt o))
+pub apdu-reads : (d : Edition) (o t : List ℕ) → apduFault d o ≡ 0 → Follows (apduAt o) t → readApdu d (header (apduAt o) ++ t) ≡ Good (Apdu.shown (apduAt o))
 unfolding apduFault
-apdu-reads o t z f =
-    let p = pick-so (eqb (length o) 12) (pick (leb (oct o 0) 7) (Apdu.faultOf (apduAt o)) 21) 60 0 (λ w. omega arith) z in
-    let q = pick-so (leb (oct o 0) 7) (Apdu.faultOf (apduAt o)) 21 0 (λ w. omega arith) (p .1) in
-    written-reads-back (apduAt o) t (q .1) f
+apdu-reads d o t z f =
+    let p = pick-so (eqb (length o) 13) (pick (leb (oct o 0) 7) (Apdu.faultOf d (apduAt o)) 21) 60 0 (λ w. omega arith) z in
+    let q = pick-so (leb (oct o 0) 7) (Apdu.faultOf d (apduAt o)) 21 0 (λ w. omega arith) (p .1) in
+    written-reads-back d (apduAt o) t (q .1) f
 
 -- ---- services: what was read and filled in is written, with the value's octets that the record names, as the parameters that were read
 pub service-again : (kind choice : ℕ) (o : List ℕ) → Octets o → (v : Service) → readService kind choice o ≡ Answer.Good v

@@ -9,6 +9,7 @@ use Rattle.octets.specs.Reading.{oct}
 use Rattle.npdu.specs.Fault as Npdu
 use Rattle.apdu.specs.Fields.{paramsAt}
 use Rattle.apdu.specs.Fault as Apdu
+use Rattle.apdu.specs.declared.Edition.{Edition}
 use Rattle.apdu.specs.declared.Answer.{Answer}
 use Rattle.apdu.specs.declared.Answer.the-variants.{Good, Refused}
 use Rattle.records.specs.Network.{npduSize, npduAt}
@@ -31,9 +32,9 @@ abbrev pub apduParams : Answer → ℕ
 apduParams (Good p) = paramsAt p
 apduParams (Refused x) = 0
 
--- what a record to be written deserves: 60 for another size, 21 for a type above 7, else what the header deserves
+-- what a record to be written deserves: 60 for another size, 21 for a type above 7, else what the header deserves; an APDU's by an edition
 unfoldable pub npduFault : List ℕ → ℕ
 npduFault o = pick (eqb (length o) npduSize) (Npdu.faultOf (npduAt o)) 60
 
-unfoldable pub apduFault : List ℕ → ℕ
-apduFault o = pick (eqb (length o) apduSize) (pick (leb (oct o 0) 7) (Apdu.faultOf (apduAt o)) 21) 60
+unfoldable pub apduFault : Edition → List ℕ → ℕ
+apduFault e o = pick (eqb (length o) apduSize) (pick (leb (oct o 0) 7) (Apdu.faultOf e (apduAt o)) 21) 60

@@ -15,7 +15,7 @@ cameTo state report area o = playing (inside state) report area o
 -- 60 and 59 of the lent areas as feeding has them
 unfoldable pub replayLeft : List ℕ → List ℕ → List ℕ → List ℕ → Left
 replayLeft state report area o =
-    pick (eqb (feedBar state report area) 0) (passed (cameTo state report area o .number) (cameTo state report area o .left) report)
+    pick (eqb (feedBar state report area) 0) (passed (inside state .edition) (cameTo state report area o .number) (cameTo state report area o .left) report)
     (barred (feedBar state report area) state report area)
 
 pub record Replays (state report area o : List ℕ) (r eaten reported : ℕ) (state′ report′ area′ : List ℕ) : Type 0 where
@@ -25,4 +25,4 @@ pub record Replays (state report area o : List ℕ) (r eaten reported : ℕ) (st
   pub stateAfter : state′ ≡ replayLeft state report area o .state
   pub reportAfter : report′ ≡ replayLeft state report area o .report
   pub areaAfter : area′ ≡ replayLeft state report area o .area
-  pub again : feedBar state report area ≡ 0 → Loads state′ (stateOf (cameTo state report area o .left))
+  pub again : feedBar state report area ≡ 0 → Loads state′ (stateOf (inside state .edition) (cameTo state report area o .left))

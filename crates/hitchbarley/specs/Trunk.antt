@@ -6,6 +6,7 @@ use mathlib.Core.List.{List, []}
 use lib.Dec.{eqb}
 use lib.ListN.{length}
 use Rattle.octets.specs.Choice.{pick, both}
+use Rattle.apdu.specs.declared.Edition.{Edition}
 use Rattle.frames.specs.declared.Receiver.{Receiver}
 use Rattle.messages.specs.Slots as Messages
 use Rattle.messages.specs.Rows.{forgetNumber}
@@ -31,21 +32,21 @@ pub record Left : Type 0 where
 abbrev pub barred : ℕ → List ℕ → List ℕ → List ℕ → Left
 barred n state report area = record { number = n; eaten = 0; reported = 0; state = state; report = report; area = area }
 
--- a state by its receiver and its slots as the rules see them; the state that the collector's call leaves
-abbrev pub stateBy : Receiver → List (Messages.Slot Key) → Collector
-stateBy r s = record { receiver = r; slots = unview s }
+-- a state by its edition, its receiver and its slots as the rules see them; the state that the collector's call leaves, in the edition that it was given
+abbrev pub stateBy : Edition → Receiver → List (Messages.Slot Key) → Collector
+stateBy e r s = record { edition = e; receiver = r; slots = unview s }
 
-abbrev pub stateOf : Answered → Collector
-stateOf d = stateBy (d .state) (d .slots)
+abbrev pub stateOf : Edition → Answered → Collector
+stateOf e d = stateBy e (d .state) (d .slots)
 
 -- what the collector's call answers and leaves, its state as octets
-abbrev pub passed : ℕ → Answered → List ℕ → Left
-passed n d report =
+abbrev pub passed : Edition → ℕ → Answered → List ℕ → Left
+passed e n d report =
     record {
       number = n;
       eaten = d .eaten;
       reported = flag (saidSo (d .said));
-      state = stateOctets (stateOf d);
+      state = stateOctets (stateOf e d);
       report = written (d .said) report;
       area = d .area;
     }
@@ -64,7 +65,7 @@ feedBar state report area = bar (both (eqb (length report) reportSize) (sized ar
 unfoldable pub feedLeft : List ℕ → List ℕ → List ℕ → List ℕ → Left
 feedLeft state report area piece =
     pick (eqb (feedBar state report area) 0)
-    (passed (feedRefusal (inside state) report area) (feeding (inside state) report area piece) report)
+    (passed (inside state .edition) (feedRefusal (inside state) report area) (feeding (inside state) report area piece) report)
     (barred (feedBar state report area) state report area)
 
 -- ---- a silence: the message area is not lent
@@ -74,7 +75,7 @@ silenceBar state report = bar (eqb (length report) reportSize) state
 unfoldable pub silenceLeft : List ℕ → List ℕ → Left
 silenceLeft state report =
     pick (eqb (silenceBar state report) 0)
-    (passed (silenceRefusal (inside state) report) (stilling (inside state) report []) report)
+    (passed (inside state .edition) (silenceRefusal (inside state) report) (stilling (inside state) report []) report)
     (barred (silenceBar state report) state report [])
 
 -- ---- forgetting: only the state area is lent
@@ -82,7 +83,7 @@ unfoldable pub forgetNumberOf : Collector → ℕ → ℕ
 forgetNumberOf c s = pick (sound (c .receiver) (slotsOf c)) (forgetNumber keys s (slotsOf c)) 59
 
 abbrev pub forgotten : Collector → ℕ → Collector
-forgotten c s = stateBy (c .receiver) (box .free s (c .receiver) (slotsOf c))
+forgotten c s = stateBy (c .edition) (c .receiver) (box (c .edition) .free s (c .receiver) (slotsOf c))
 
 unfoldable pub forgetLeft : List ℕ → ℕ → Left
 forgetLeft state s =
@@ -98,14 +99,14 @@ pub record Feeds (state report area piece : List ℕ) (r eaten reported : ℕ) (
   pub stateAfter : state′ ≡ feedLeft state report area piece .state
   pub reportAfter : report′ ≡ feedLeft state report area piece .report
   pub areaAfter : area′ ≡ feedLeft state report area piece .area
-  pub again : feedBar state report area ≡ 0 → Loads state′ (stateOf (feeding (inside state) report area piece))
+  pub again : feedBar state report area ≡ 0 → Loads state′ (stateOf (inside state .edition) (feeding (inside state) report area piece))
 
 pub record Stills (state report : List ℕ) (r reported : ℕ) (state′ report′ : List ℕ) : Type 0 where
   pub number : r ≡ silenceLeft state report .number
   pub spoke : reported ≡ silenceLeft state report .reported
   pub stateAfter : state′ ≡ silenceLeft state report .state
   pub reportAfter : report′ ≡ silenceLeft state report .report
-  pub again : silenceBar state report ≡ 0 → Loads state′ (stateOf (stilling (inside state) report []))
+  pub again : silenceBar state report ≡ 0 → Loads state′ (stateOf (inside state .edition) (stilling (inside state) report []))
 
 pub record Forgets (state : List ℕ) (s r : ℕ) (state′ : List ℕ) : Type 0 where
   pub number : r ≡ forgetLeft state s .number

@@ -8,6 +8,7 @@ ghost use Rattle.apdu.specs.Reading.{readApdu};
 ghost use Rattle.apdu.specs.Layout.{header};
 ghost use Rattle.records.specs.Network.{npduRecord, npduAt};
 ghost use Rattle.records.specs.Application.{apduAt};
+ghost use Rattle.state.specs.Edition.{editionOf};
 ghost use Rattle.hitchbarley.specs.Answers.{FillsTo, Writes};
 ghost use Rattle.hitchbarley.specs.Headers.{apduGood, apduNumber, apduOctets, apduParams, npduFault, apduFault};
 
@@ -45,16 +46,17 @@ pub extern "C" fn hb_npdu_write(fields: &[u8], out: &mut [u8], wrote: &mut usize
     answers::written(w, wrote)
 }
 
-// The header of an APDU, as a record of 12: 0, 60 or 20 to 24; and the place where its parameters begin.
+// The header of an APDU, read by the edition that `later` says, as a record of 13: 0, 60 or 20 to 24; and the place where its parameters begin.
 #[no_mangle]
-pub extern "C" fn hb_apdu_read(octets: &[u8], fields: &mut [u8], next: &mut usize) -> u8
-    ensures { λ r. ⌜ FillsTo 12 (apduGood (readApdu (now (octets .entry)))) (apduNumber (readApdu (now (octets .entry)))) (apduOctets (readApdu (now (octets .entry)))) (apduParams (readApdu (now (octets .entry)))) (now (fields .entry)) r (now (next .exit)) (now (fields .exit)) ⌝ }
+pub extern "C" fn hb_apdu_read(octets: &[u8], later: u8, fields: &mut [u8], next: &mut usize) -> u8
+    ensures { λ r. ⌜ FillsTo 13 (apduGood (readApdu (editionOf later) (now (octets .entry)))) (apduNumber (readApdu (editionOf later) (now (octets .entry)))) (apduOctets (readApdu (editionOf later) (now (octets .entry)))) (apduParams (readApdu (editionOf later) (now (octets .entry)))) (now (fields .entry)) r (now (next .exit)) (now (fields .exit)) ⌝ }
 {
     *next = 0;
-    if fields.len() != 12 {
+    if fields.len() != 13 {
         return 60;
     }
-    let a = apdu::read(octets);
+    let edition = state::edition_of(later);
+    let a = apdu::read(edition, octets);
     match a {
         Answer::Good(p) => {
             records::application::put(p, fields);
@@ -65,19 +67,20 @@ pub extern "C" fn hb_apdu_read(octets: &[u8], fields: &mut [u8], next: &mut usiz
     }
 }
 
-// The octets of an APDU's header: 0, 60, 21 to 23 or 61; and how many were written.
+// The octets of an APDU's header in the edition that `later` says: 0, 60, 21 to 23 or 61; and how many were written.
 #[no_mangle]
-pub extern "C" fn hb_apdu_write(fields: &[u8], out: &mut [u8], wrote: &mut usize) -> u8
-    ensures { λ r. ⌜ Writes (apduFault (now (fields .entry))) (header (apduAt (now (fields .entry)))) (now (out .entry)) r (now (wrote .exit)) (now (out .exit)) ⌝ }
+pub extern "C" fn hb_apdu_write(fields: &[u8], later: u8, out: &mut [u8], wrote: &mut usize) -> u8
+    ensures { λ r. ⌜ Writes (apduFault (editionOf later) (now (fields .entry))) (header (apduAt (now (fields .entry)))) (now (out .entry)) r (now (wrote .exit)) (now (out .exit)) ⌝ }
 {
     *wrote = 0;
-    if fields.len() != 12 {
+    if fields.len() != 13 {
         return 60;
     }
     if 7 < fields[0] {
         return 21;
     }
     let p = records::application::get(fields);
-    let w = apdu_writer::write(p, out);
+    let edition = state::edition_of(later);
+    let w = apdu_writer::write(edition, p, out);
     answers::written(w, wrote)
 }

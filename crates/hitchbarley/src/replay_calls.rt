@@ -26,9 +26,11 @@ pub extern "C" fn hb_replay(
     if n != 0 {
         return n;
     }
+    let edition = o.edition;
     let link = o.link;
     let slots = o.slots;
     let f = playback::lent::replay(
+        edition,
         link,
         slots,
         &mut state[state::STORE..state::STORE_END],

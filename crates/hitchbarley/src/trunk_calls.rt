@@ -3,14 +3,16 @@ use collector::Collector;
 use collector::lent;
 ghost use Rattle.collector.specs.Calls.{freshCollector};
 ghost use Rattle.state.specs.Calls.{Saves};
+ghost use Rattle.state.specs.Edition.{editionOf};
 ghost use Rattle.hitchbarley.specs.Trunk.{Feeds, Stills, Forgets};
 
-// Makes a fresh state: 0, or 60.
+// Makes a fresh state of the edition that `later` says: 0 is 1995, any other number the later one. 0, or 60.
 #[no_mangle]
-pub extern "C" fn hb_fresh(state: &mut [u8]) -> u8
-    ensures { λ r. ⌜ Saves freshCollector (now (state .entry)) r (now (state .exit)) ⌝ }
+pub extern "C" fn hb_fresh(state: &mut [u8], later: u8) -> u8
+    ensures { λ r. ⌜ Saves (freshCollector (editionOf later)) (now (state .entry)) r (now (state .exit)) ⌝ }
 {
-    state::save(Collector::fresh(), state)
+    let edition = state::edition_of(later);
+    state::save(Collector::fresh(edition), state)
 }
 
 // Eats a piece's octets through the first that causes a report, else all: 0, 60 or 59.
@@ -38,9 +40,11 @@ pub extern "C" fn hb_feed(
     if n != 0 {
         return n;
     }
+    let edition = o.edition;
     let link = o.link;
     let slots = o.slots;
     let f = lent::feed(
+        edition,
         link,
         slots,
         &mut state[state::STORE..state::STORE_END],

@@ -2,6 +2,7 @@
 use crate::heading;
 use crate::heard::Heard;
 use apdu::Answer;
+use apdu::Edition;
 use apdu::Pdu;
 use apdu::SegmentAckPdu;
 use words::fill;
@@ -63,13 +64,13 @@ fn params(book: &[u8], r: Heard, s: &[u8], records: &mut [u8], out: &mut [u8], a
     values::service::text(book, r.first / 16, r.choice, s, records, out, a)
 }
 
-// What an unsegmented APDU says behind its heading.
+// What an unsegmented APDU says behind its heading. A header is read of kinds without parameters alone: no request, and the editions read them alike.
 fn said(book: &[u8], r: Heard, s: &[u8], records: &mut [u8], out: &mut [u8], at: usize) -> usize {
     let from = begins(r.first / 16);
     if 0 < from {
         return params(book, r, show::part(s, from, s.len()), records, out, at);
     }
-    let p = apdu::read(s);
+    let p = apdu::read(Edition::First, s);
     match p {
         Answer::Good(q) => bare(book, q, out, at),
         Answer::Refused(_) => at,

@@ -1,15 +1,17 @@
 // The listener between two calls, over the lent frame store and message area.
 use crate::output;
 use crate::output::Gathered;
+use apdu::Edition;
 use collector::lent;
 use frames::Link;
 use frames::Phase;
 use frames::Receiver;
 use rebuild::Slots;
 
-// `framed`: octets of frames, damaged ones too; `at`: the octets gathered for writing; `more`: the last call reported, the reading goes on;
-// `stopped`: nothing more can be written.
+// `edition`: chosen once, for the whole input; `framed`: octets of frames, damaged ones too; `at`: the octets gathered for writing;
+// `more`: the last call reported, the reading goes on; `stopped`: nothing more can be written.
 pub struct Ear {
+    pub edition: Edition,
     pub link: Link,
     pub slots: Slots,
     pub octets: u64,
@@ -48,12 +50,13 @@ impl Ear {
     }
 }
 
-// A fresh listener, with so many octets gathered for writing.
-pub fn fresh(at: usize) -> Ear {
+// A fresh listener by an edition, with so many octets gathered for writing.
+pub fn fresh(edition: Edition, at: usize) -> Ear {
     let r = Receiver::FRESH;
     let link = r.link;
     let slots = Slots::fresh();
     Ear {
+        edition,
         link,
         slots,
         octets: 0,
@@ -107,9 +110,10 @@ pub fn feed(
     area: &mut [u8; 65536],
     counts: &mut [u64; 12],
 ) -> Ear {
+    let edition = e.edition;
     let link = e.link;
     let slots = e.slots;
-    let f = lent::feed(link, slots, store, rest, report, area);
+    let f = lent::feed(edition, link, slots, store, rest, report, area);
     let link = f.link;
     let slots = f.slots;
     let mut framed = e.framed;
@@ -118,6 +122,7 @@ pub fn feed(
         framed = std::num::wrapping_add_u64(framed, length(report[0], report[1], link));
     }
     Ear {
+        edition,
         link,
         slots,
         octets: std::num::wrapping_add_u64(e.octets, f.eaten as u64),

@@ -211,7 +211,7 @@ fn listen(book: &[u8], w: Wish, fd: i32) {
     let at = output::start(w.csv, &mut out);
     let e = all(
         book,
-        ear::fresh(at),
+        ear::fresh(w.edition(), at),
         w,
         fd,
         &mut store,

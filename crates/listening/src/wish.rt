@@ -1,12 +1,23 @@
 // What the arguments ask for.
+use apdu::Edition;
 use libc::STDERR_FILENO;
 
-// `file`: the number of the argument that names the file, 0 for standard input.
+// `later`: the later edition, not that of 1995; `file`: the number of the argument that names the file, 0 for standard input.
 pub struct Wish {
     pub csv: bool,
     pub octets: bool,
+    pub later: bool,
     pub file: usize,
     pub wrong: bool,
+}
+
+impl Wish {
+    pub fn edition(self) -> Edition {
+        if self.later {
+            return Edition::Later;
+        }
+        Edition::First
+    }
 }
 
 fn word(w: Wish, i: usize) -> Wish {
@@ -21,6 +32,10 @@ fn word(w: Wish, i: usize) -> Wish {
         v.octets = true;
         return v;
     }
+    if check::same(&buf[..n], b"--later") {
+        v.later = true;
+        return v;
+    }
     if buf[0] == 45 || w.file != 0 {
         v.wrong = true;
         return v;
@@ -33,6 +48,7 @@ pub fn read() -> Wish {
     let mut w = Wish {
         csv: false,
         octets: false,
+        later: false,
         file: 0,
         wrong: false,
     };
@@ -49,11 +65,21 @@ fn say(s: &[u8]) {
     io::write_all(STDERR_FILENO, s);
 }
 
+// What --later means, to both programs.
+pub fn later() {
+    say(
+        b"--later: confirmed requests by the later edition: bits 6 to 4 of their second octet are the segments accepted\n(by that of 1995, as without it, they are zero bits: set, they are refused, 22).\n",
+    );
+}
+
 pub fn usage() {
     say(
-        b"usage: listen [--octets] [FILE]    a line for each report, with --octets its 16 octets too\n",
+        b"usage: listen [--later] [--octets] [FILE]    a line for each report, with --octets its 16 octets too\n",
     );
-    say(b"       listen --csv [FILE]         a row for each value that was read or written\n");
+    say(
+        b"       listen [--later] --csv [FILE]         a row for each value that was read or written\n",
+    );
+    later();
     say(b"FILE holds trunk octets as they came; without one they are read from standard input.\n");
     say(
         b"Such a recording has no silences, so a frame that was cut off hides the good ones behind it.\n",

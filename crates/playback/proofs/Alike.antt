@@ -2,6 +2,7 @@
 use Prim.Native.Nat.{ℕ}
 use mathlib.Core.Path.{_≡_, refl, sym, _∙_}
 use mathlib.Core.List.{List}
+use Rattle.apdu.specs.declared.Edition.{Edition}
 use Rattle.rebuild.proofs.Seen.{view-one, view-unview}
 use Rattle.collector.specs.Calls.{written, saidSo}
 use Rattle.collector.specs.declared.Collector.{Collector}
@@ -15,12 +16,13 @@ plays-one c report area o {r₁ = r₁} {r₂ = r₂} a b =
     let n = a .refused ∙ sym (b .refused) in
     let k = a .eaten ∙ sym (b .eaten) in
     let f = a .reported ∙ sym (b .reported) in
+    let d = a .edition ∙ sym (b .edition) in
     let v = a .receiver ∙ sym (b .receiver) in
     let s = view-one (r₁ .state .slots) (r₂ .state .slots) (a .slots ∙ sym (b .slots)) in
-    (λ i. record { refused = n i; eaten = k i; reported = f i; state = record { receiver = v i; slots = s i } }, a .reportAfter ∙ sym (b .reportAfter), a .areaAfter ∙ sym (b .areaAfter))
+    (λ i. record { refused = n i; eaten = k i; reported = f i; state = record { edition = d i; receiver = v i; slots = s i } }, a .reportAfter ∙ sym (b .reportAfter), a .areaAfter ∙ sym (b .areaAfter))
 
-abbrev pub playedBy : Course → Played
-playedBy w = record { refused = w .number; eaten = w .left .eaten; reported = saidSo (w .left .said); state = stateOf (w .left) }
+abbrev pub playedBy : Edition → Course → Played
+playedBy edition w = record { refused = w .number; eaten = w .left .eaten; reported = saidSo (w .left .said); state = stateOf edition (w .left) }
 
-pub comes : (w : Course) (report : List ℕ) → Comes w report (playedBy w) (written (w .left .said) report) (w .left .area)
-comes w report = record { refused = refl; eaten = refl; reported = refl; receiver = refl; slots = view-unview (w .left .slots); reportAfter = refl; areaAfter = refl }
+pub comes : (edition : Edition) (w : Course) (report : List ℕ) → Comes edition w report (playedBy edition w) (written (w .left .said) report) (w .left .area)
+comes edition w report = record { refused = refl; eaten = refl; reported = refl; edition = refl; receiver = refl; slots = view-unview (w .left .slots); reportAfter = refl; areaAfter = refl }

@@ -12,6 +12,7 @@ use Rattle.runs.specs.Offered.{Call, Offer, Made, places, spoken, answer, boxCa
 use Rattle.runs.specs.Offered.Offer.{call}
 use Rattle.runs.specs.Offered.Made.{feed, still, free}
 use Rattle.runs.proofs.Carrying.{Goes}
+use Rattle.apdu.specs.declared.Edition.{Edition}
 use Rattle.frames.specs.declared.Receiver.{Receiver}
 use Rattle.messages.specs.Slots as Messages
 use Rattle.rebuild.specs.declared.Key.{Key}
@@ -56,38 +57,38 @@ module _ {St R : Type 0} (D : Call St R) where
 abbrev pub atBox : Answered → Boxed
 atBox d = (d .state, d .slots, d .area)
 
-abbrev pub GoesBox : Boxed → Run → ℕ → Option (List ℕ) → Boxed → Type 0
-GoesBox = Goes (Made (boxCalls box))
+abbrev pub GoesBox : Edition → Boxed → Run → ℕ → Option (List ℕ) → Boxed → Type 0
+GoesBox edition = Goes (Made (boxCalls (box edition)))
 
-module _ {r : Receiver} {s : List (Messages.Slot Key)} {a : List ℕ} (R : Ready r s a) where
+module _ (edition : Edition) {r : Receiver} {s : List (Messages.Slot Key)} {a : List ℕ} (R : Ready r s a) where
   -- an octet that is fed is eaten
-  pub one-eaten : (x : ℕ) → box .feed r s a (x ∷ []) .eaten ≡ 1
+  pub one-eaten : (x : ℕ) → box edition .feed r s a (x ∷ []) .eaten ≡ 1
   one-eaten x =
-      let low = play-some (octs (x ∷ [])) r s a (omega arith) in
-      let high = play-most (octs (x ∷ [])) r s a in
-      rw (feed-as-play (x ∷ []) R) (omega arith)
+      let low = play-some edition (octs (x ∷ [])) r s a (omega arith) in
+      let high = play-most edition (octs (x ∷ [])) r s a in
+      rw (feed-as-play edition (x ∷ []) R) (omega arith)
 
-  pub one-goes : (y : Order) → GoesBox (r, s, a) (y ∷ []) 1 (one y r s a .said) (atBox (one y r s a))
+  pub one-goes : (y : Order) → GoesBox edition (r, s, a) (y ∷ []) 1 (one edition y r s a .said) (atBox (one edition y r s a))
   unfolding one
   one-goes (trunk (octet x)) p run rs last o =
-      let d = box .feed r s a (x ∷ []) in
+      let d = box edition .feed r s a (x ∷ []) in
       call (octs (x ∷ [])) run (feed (x ∷ []) (ap (λ (n : ℕ). answer n (d .said) (d .state) (d .slots) (d .area)) (sym (one-eaten x)))) o
   one-goes (trunk silence) p run rs last o =
-      let d = box .still r s a in
+      let d = box edition .still r s a in
       let q : answer 0 (d .said) (d .state) (d .slots) (d .area) ≡ d = rw (R .slots) in
       call (trunk silence ∷ []) run (still {t = atBox d} q) o
   one-goes (forget i) p run rs last o = call (forget i ∷ []) run (free i refl) o
 
-go-goes : (x : Option (List ℕ)) (y : Order) (run : Run) (u : Boxed) (d e : Answered) → GoesBox u (y ∷ []) 1 x (atBox d) → GoesBox (atBox d) run (e .eaten) (e .said) (atBox e)
-    → (let f = thenGo x d e in GoesBox u (y ∷ run) (f .eaten) (f .said) (atBox f))
-go-goes none y run u d e g h =
+go-goes : (edition : Edition) (x : Option (List ℕ)) (y : Order) (run : Run) (u : Boxed) (d e : Answered) → GoesBox edition u (y ∷ []) 1 x (atBox d) → GoesBox edition (atBox d) run (e .eaten) (e .said) (atBox e)
+    → (let f = thenGo x d e in GoesBox edition u (y ∷ run) (f .eaten) (f .said) (atBox f))
+go-goes edition none y run u d e g h =
     let z : suc (e .eaten) ≡ 1 + e .eaten = omega arith in
-    subst (λ (n : ℕ). GoesBox u (y ∷ run) n (e .said) (atBox e)) z (goes-then (Made (boxCalls box)) y run (e .eaten) (e .said) g h)
-go-goes (some p) y run u d e g h = goes-front (Made (boxCalls box)) y run (some p) g
+    subst (λ (n : ℕ). GoesBox edition u (y ∷ run) n (e .said) (atBox e)) z (goes-then (Made (boxCalls (box edition))) y run (e .eaten) (e .said) g h)
+go-goes edition (some p) y run u d e g h = goes-front (Made (boxCalls (box edition))) y run (some p) g
 
-pub play-goes : (run : Run) {r : Receiver} {s : List (Messages.Slot Key)} {a : List ℕ} → Ready r s a
-    → (let d = play r s a run in GoesBox (r, s, a) run (d .eaten) (d .said) (atBox d))
-play-goes [] {r} {s} {a} R = goes-none (Made (boxCalls box)) (r, s, a) []
-play-goes (y ∷ run) {r} {s} {a} R =
-    let d = one y r s a in
-    go-goes (d .said) y run (r, s, a) d (play (d .state) (d .slots) (d .area) run) (one-goes R y) (play-goes run (one-ready R y))
+pub play-goes : (edition : Edition) (run : Run) {r : Receiver} {s : List (Messages.Slot Key)} {a : List ℕ} → Ready r s a
+    → (let d = play edition r s a run in GoesBox edition (r, s, a) run (d .eaten) (d .said) (atBox d))
+play-goes edition [] {r} {s} {a} R = goes-none (Made (boxCalls (box edition))) (r, s, a) []
+play-goes edition (y ∷ run) {r} {s} {a} R =
+    let d = one edition y r s a in
+    go-goes edition (d .said) y run (r, s, a) d (play edition (d .state) (d .slots) (d .area) run) (one-goes edition R y) (play-goes edition run (one-ready edition R y))

@@ -5,6 +5,7 @@ use mathlib.Core.Bool.{Bool, true, false}
 use mathlib.Core.List.{List}
 use lib.ListN.{length, take}
 use borrow.Author.Tests.{eqb-true}
+use Rattle.apdu.specs.declared.Edition.{Edition}
 use Rattle.frames.specs.declared.Outcome.the-variants.{Quiet, Frame, Damage}
 use Rattle.frames.specs.declared.Link.{Link}
 use Rattle.frames.specs.declared.Ran.{Ran}
@@ -39,24 +40,24 @@ module _ (l : Link) (t : Slots) (store report area o : List ℕ) (A : LendsOctet
       pub ended-short : length (take m store′) ≤ 501
       ended-short = data-short l store (take k piece) f store′ g e q
 
-    module _ (G : Gathered o piece k) (s : length store′ ≡ length store) where
+    module _ (edition : Edition) (G : Gathered o piece k) (s : length store′ ≡ length store) where
       pub turn-quiet : f .outcome ≡ Quiet
-          → Turned l t store report area o (record { ends = false; number = 0; eaten = f .eaten; reported = false; moved = false; link = f .link; slots = t }) store′ report area
-      turn-quiet e = turn-eat l t store report area o A piece k G _ (eats-quiet l t store report area (take k piece) (A .lends .line) area-size {b = true} (sym (A .lends .ready .slots)) refl f store′ g e) s refl
+          → Turned edition l t store report area o (record { ends = false; number = 0; eaten = f .eaten; reported = false; moved = false; link = f .link; slots = t }) store′ report area
+      turn-quiet e = turn-eat edition l t store report area o A piece k G _ (eats-quiet edition l t store report area (take k piece) (A .lends .line) area-size {b = true} (sym (A .lends .ready .slots)) refl f store′ g e) s refl
 
       pub turn-damage : {d : ℕ} {report′ : List ℕ} → f .outcome ≡ Damage d → report′ ≡ damageOctets d
-          → Turned l t store report area o (record { ends = true; number = 0; eaten = f .eaten; reported = true; moved = false; link = f .link; slots = t }) store′ report′ area
+          → Turned edition l t store report area o (record { ends = true; number = 0; eaten = f .eaten; reported = true; moved = false; link = f .link; slots = t }) store′ report′ area
       turn-damage e h =
-          turn-eat l t store report area o A piece k G _ (eats-damage l t store report area (take k piece) (A .lends .line) area-size {b = true} (sym (A .lends .ready .slots)) refl f store′ g e h) s refl
+          turn-eat edition l t store report area o A piece k G _ (eats-damage edition l t store report area (take k piece) (A .lends .line) area-size {b = true} (sym (A .lends .ready .slots)) refl f store′ g e h) s refl
 
       pub turn-carried : {m : ℕ} (u : Slots) {report′ area′ : List ℕ} → f .outcome ≡ Frame → m ≡ lengthOf (f .link .head)
-          → (let w = heardOf (f .link .head) in Acted (acting w (contentOf w (take m store′)) (view t) area) u report′ area′) → length area′ ≡ length area
-          → Turned l t store report area o (record { ends = true; number = 0; eaten = f .eaten; reported = true; moved = true; link = f .link; slots = u }) store′ report′ area′
+          → (let w = heardOf edition (f .link .head) in Acted (acting w (contentOf w (take m store′)) (view t) area) u report′ area′) → length area′ ≡ length area
+          → Turned edition l t store report area o (record { ends = true; number = 0; eaten = f .eaten; reported = true; moved = true; link = f .link; slots = u }) store′ report′ area′
       turn-carried u e q h z =
-          turn-eat l t store report area o A piece k G _ (eats-carried l t store report area (take k piece) (A .lends .line) area-size {b = true} (sym (A .lends .ready .slots)) refl f store′ g u e q h) s z
+          turn-eat edition l t store report area o A piece k G _ (eats-carried edition l t store report area (take k piece) (A .lends .line) area-size {b = true} (sym (A .lends .ready .slots)) refl f store′ g u e q h) s z
 
       pub turn-other : {m : ℕ} {report′ : List ℕ} → f .outcome ≡ Frame → m ≡ lengthOf (f .link .head)
-          → (let w = heardOf (f .link .head) in ActedAlone w (contentOf w (take m store′)) report′)
-          → Turned l t store report area o (record { ends = true; number = 0; eaten = f .eaten; reported = true; moved = false; link = f .link; slots = t }) store′ report′ area
+          → ActedAlone (f .link .head) (take m store′) report′
+          → Turned edition l t store report area o (record { ends = true; number = 0; eaten = f .eaten; reported = true; moved = false; link = f .link; slots = t }) store′ report′ area
       turn-other e q h =
-          turn-eat l t store report area o A piece k G _ (eats-other l t store report area (take k piece) (A .lends .line) area-size {b = true} (sym (A .lends .ready .slots)) refl f store′ g e q h) s refl
+          turn-eat edition l t store report area o A piece k G _ (eats-other edition l t store report area (take k piece) (A .lends .line) area-size {b = true} (sym (A .lends .ready .slots)) refl f store′ g e q h) s refl

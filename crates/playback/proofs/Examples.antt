@@ -10,14 +10,16 @@ use Rattle.octets.specs.Numbers.{digits}
 use Rattle.sums.specs.Sums.{headerMix}
 use Rattle.runs.specs.Run.{Run, octs}
 use Rattle.runs.specs.Run.Order.{forget}
+use Rattle.apdu.specs.declared.Edition.{Edition}
 use Rattle.frames.specs.declared.Receiver.{Receiver}
-use Rattle.frames.specs.Step.{lengthOf, stepOf, feedFrom}
+use Rattle.frames.specs.Step.{lengthOf, stepOf, feedFrom, freshOf}
 use Rattle.messages.specs.Slots as Messages
+use Rattle.rebuild.specs.View.{view, fresh}
 use Rattle.rebuild.specs.declared.Key.{Key}
 use Rattle.rebuild.proofs.Page.{fresh-passes}
 use Rattle.reports.specs.Layout.{reportSize, reportOctets}
 use Rattle.collector.specs.Frame.{contentOf}
-use Rattle.collector.specs.Calls.{freshCollector, slotsOf, Answered, feedRefusal}
+use Rattle.collector.specs.Calls.{freshCollector, Answered, feedRefusal}
 use Rattle.playback.specs.Layout.{recordOctets}
 use Rattle.playback.specs.Valid.{Bad}
 use Rattle.playback.specs.Valid.Bad.{kind-above}
@@ -41,17 +43,17 @@ abbrev pub wholeReport : List ℕ
 wholeReport = 0x01 ∷ 0x00 ∷ 0x01 ∷ 0x02 ∷ 0x01 ∷ 0 ∷ 0 ∷ 0 ∷ 0 ∷ 0 ∷ 0 ∷ 0 ∷ 0 ∷ 0 ∷ 0 ∷ 0 ∷ []
 
 abbrev start : Receiver
-start = freshCollector .receiver
+start = freshOf
 
 abbrev free : List (Messages.Slot Key)
-free = slotsOf freshCollector
+free = view fresh
 
-module _ (report area : List ℕ) (k : length report ≡ reportSize) (z : length area ≡ 65536) where
+module _ (edition : Edition) (report area : List ℕ) (k : length report ≡ reportSize) (z : length area ≡ 65536) where
   fresh-ready : Ready start free area
   fresh-ready = record { receiver = refl; slots = fresh-passes; fits = eq-eqb (length area) 65536 z }
 
   abbrev fed : Answered
-  fed = ruledBy free area (feedFrom 0 start frame)
+  fed = ruledBy edition free area (feedFrom 0 start frame)
 
   fed-eaten : fed .eaten ≡ 8
   unfolding stepOf headerMix lengthOf
@@ -62,11 +64,11 @@ module _ (report area : List ℕ) (k : length report ≡ reportSize) (z : length
   fed-said = refl
 
   -- the forget order changes nothing; the frame's records are its octets fed
-  whole-play : play start free area wholeCase ≡ more 1 fed
+  whole-play : play edition start free area wholeCase ≡ more 1 fed
   unfolding one
-  whole-play = ap (more 1) (sym (feed-as-play frame fresh-ready) ∙ box-feed fresh-ready frame)
+  whole-play = ap (more 1) (sym (feed-as-play edition frame fresh-ready) ∙ box-feed edition fresh-ready frame)
 
-  passed : playRefusal freshCollector report area wholeRecords ≡ 0
+  passed : playRefusal (freshCollector edition) report area wholeRecords ≡ 0
   unfolding playRefusal feedRefusal
   passed = rw (eq-eqb (length report) reportSize k, eq-eqb (length area) 65536 z)
 
@@ -74,20 +76,20 @@ module _ (report area : List ℕ) (k : length report ≡ reportSize) (z : length
   third-kind = kind-above (omega arith)
 
   -- the bad record's 67 stands behind the report
-  whole-course : playing freshCollector report area wholeRecords ≡ byFront (more 1 fed) 67
+  whole-course : playing (freshCollector edition) report area wholeRecords ≡ byFront (more 1 fed) 67
   unfolding playing courseOf
   whole-course =
       let w = readRecords wholeRecords in
       let o : List ℕ = 3 ∷ 0 ∷ 0 ∷ 0 ∷ [] in
-      let q : playing freshCollector report area wholeRecords ≡ byFront (play start free area (w .front)) (w .stop) = rw passed in
-      q ∙ ap (λ (run : Run). byFront (play start free area run) (w .stop)) (front-behind wholeCase o (bad third-kind))
-      ∙ ap (λ (n : ℕ). byFront (play start free area wholeCase) n) (bad-stops wholeCase 3 0 0 0 [] third-kind) ∙ ap (λ (d : Answered). byFront d 67) whole-play
+      let q : playing (freshCollector edition) report area wholeRecords ≡ byFront (play edition start free area (w .front)) (w .stop) = rw passed in
+      q ∙ ap (λ (run : Run). byFront (play edition start free area run) (w .stop)) (front-behind wholeCase o (bad third-kind))
+      ∙ ap (λ (n : ℕ). byFront (play edition start free area wholeCase) n) (bad-stops wholeCase 3 0 0 0 [] third-kind) ∙ ap (λ (d : Answered). byFront d 67) whole-play
 
-  pub whole-number : playing freshCollector report area wholeRecords .number ≡ 0
+  pub whole-number : playing (freshCollector edition) report area wholeRecords .number ≡ 0
   whole-number = ap (λ (w : Course). w .number) whole-course ∙ rw fed-said
 
-  pub whole-eaten : playing freshCollector report area wholeRecords .left .eaten ≡ 9
+  pub whole-eaten : playing (freshCollector edition) report area wholeRecords .left .eaten ≡ 9
   whole-eaten = ap (λ (w : Course). w .left .eaten) whole-course ∙ rw fed-eaten
 
-  pub whole-said : playing freshCollector report area wholeRecords .left .said ≡ some wholeReport
+  pub whole-said : playing (freshCollector edition) report area wholeRecords .left .said ≡ some wholeReport
   whole-said = ap (λ (w : Course). w .left .said) whole-course ∙ fed-said

@@ -10,6 +10,7 @@ use Rattle.runs.specs.Run.{octs}
 use Rattle.runs.specs.Offered.{answer, caught}
 use Rattle.frames.specs.declared.Outcome.{Outcome}
 use Rattle.frames.specs.declared.Outcome.the-variants.{Quiet, Frame, Damage}
+use Rattle.apdu.specs.declared.Edition.{Edition}
 use Rattle.frames.specs.declared.Receiver.{Receiver}
 use Rattle.frames.specs.declared.Fed.{Fed}
 use Rattle.frames.specs.Step.{stepOf, reportsOf, fedAt, feedFrom, feedOf}
@@ -37,48 +38,48 @@ fed-later (x ∷ xs) m n r =
     (λ e. rw e (ap (λ (k : ℕ). fedAt k (t .outcome) (t .receiver)) z))
     (λ e. rw e (ap (λ (k : ℕ). feedFrom k (t .receiver) xs) z ∙ fed-later xs m (n + 1) (t .receiver)))
 
-abbrev pub ruledBy : List (Messages.Slot Key) → List ℕ → Fed → Answered
-ruledBy s a f = ruled (rules keys bacnet) s a f
+abbrev pub ruledBy : Edition → List (Messages.Slot Key) → List ℕ → Fed → Answered
+ruledBy edition s a f = ruled (rules keys (bacnet edition)) s a f
 
-caught-more : (x : Option Out) (m n : ℕ) (r : Receiver) (s : List (Messages.Slot Key)) (a : List ℕ)
-    → caught (rules keys bacnet) x (m + n) r s a (answer (m + n) none r s a) ≡ more m (caught (rules keys bacnet) x n r s a (answer n none r s a))
-caught-more none m n r s a = refl
-caught-more (some o) m n r s a = refl
+caught-more : (edition : Edition) (x : Option Out) (m n : ℕ) (r : Receiver) (s : List (Messages.Slot Key)) (a : List ℕ)
+    → caught (rules keys (bacnet edition)) x (m + n) r s a (answer (m + n) none r s a) ≡ more m (caught (rules keys (bacnet edition)) x n r s a (answer n none r s a))
+caught-more edition none m n r s a = refl
+caught-more edition (some o) m n r s a = refl
 
-ruled-later : (m : ℕ) (f : Fed) (s : List (Messages.Slot Key)) (a : List ℕ) → ruledBy s a (later m f) ≡ more m (ruledBy s a f)
-ruled-later m f s a = caught-more (outOf (f .outcome) (f .receiver)) m (f .eaten) (f .receiver) s a
+ruled-later : (edition : Edition) (m : ℕ) (f : Fed) (s : List (Messages.Slot Key)) (a : List ℕ) → ruledBy edition s a (later m f) ≡ more m (ruledBy edition s a f)
+ruled-later edition m f s a = caught-more edition (outOf (f .outcome) (f .receiver)) m (f .eaten) (f .receiver) s a
 
 -- an outcome that reports ends it
-ends-there : (o : Outcome) (r : Receiver) (s : List (Messages.Slot Key)) (a : List ℕ) (rest : Answered) → reportsOf o ≡ true
-    → (let d = ruledBy s a (fedAt 1 o r) in d ≡ thenGo (d .said) d rest)
-ends-there Quiet r s a rest e = impossible (cc)
-ends-there Frame r s a rest e = refl
-ends-there (Damage n) r s a rest e = refl
+ends-there : (edition : Edition) (o : Outcome) (r : Receiver) (s : List (Messages.Slot Key)) (a : List ℕ) (rest : Answered) → reportsOf o ≡ true
+    → (let d = ruledBy edition s a (fedAt 1 o r) in d ≡ thenGo (d .said) d rest)
+ends-there edition Quiet r s a rest e = impossible (cc)
+ends-there edition Frame r s a rest e = refl
+ends-there edition (Damage n) r s a rest e = refl
 
 -- with what 59 and 60 pass, feeding is the receiver's and then the rules
-pub box-feed : {r : Receiver} {s : List (Messages.Slot Key)} {a : List ℕ} → Ready r s a → (xs : List ℕ) → box .feed r s a xs ≡ ruledBy s a (feedFrom 0 r xs)
-box-feed {r} {s} {a} R xs = rw (R .fits, R .slots) (ap (ruledBy s a) (sym (opened r xs (R .receiver))))
+pub box-feed : (edition : Edition) {r : Receiver} {s : List (Messages.Slot Key)} {a : List ℕ} → Ready r s a → (xs : List ℕ) → box edition .feed r s a xs ≡ ruledBy edition s a (feedFrom 0 r xs)
+box-feed edition {r} {s} {a} R xs = rw (R .fits, R .slots) (ap (ruledBy edition s a) (sym (opened r xs (R .receiver))))
 
-abbrev goOn : Answered → List ℕ → Answered
-goOn d xs = thenGo (d .said) d (play (d .state) (d .slots) (d .area) (octs xs))
+abbrev goOn : Edition → Answered → List ℕ → Answered
+goOn edition d xs = thenGo (d .said) d (play edition (d .state) (d .slots) (d .area) (octs xs))
 
-pub feed-as-play : (xs : List ℕ) {r : Receiver} {s : List (Messages.Slot Key)} {a : List ℕ} → Ready r s a → box .feed r s a xs ≡ play r s a (octs xs)
+pub feed-as-play : (edition : Edition) (xs : List ℕ) {r : Receiver} {s : List (Messages.Slot Key)} {a : List ℕ} → Ready r s a → box edition .feed r s a xs ≡ play edition r s a (octs xs)
 unfolding one
-feed-as-play [] R = box-feed R []
-feed-as-play (x ∷ xs) {r} {s} {a} R =
+feed-as-play edition [] R = box-feed edition R []
+feed-as-play edition (x ∷ xs) {r} {s} {a} R =
     let t = stepOf r x in
     let r′ = t .receiver in
     let R′ : Ready r′ s a = record { receiver = sound-step r x (R .receiver); slots = R .slots; fits = R .fits } in
-    let all = box-feed R (x ∷ xs) in
-    let one = box-feed R (x ∷ []) in
+    let all = box-feed edition R (x ∷ xs) in
+    let first = box-feed edition R (x ∷ []) in
     by-test (reportsOf (t .outcome))
     (λ e.
-    let d = ruledBy s a (fedAt 1 (t .outcome) r′) in
-    let p : box .feed r s a (x ∷ xs) ≡ d = rw e at all in
-    let q : box .feed r s a (x ∷ []) ≡ d = rw e at one in
-    p ∙ ends-there (t .outcome) r′ s a (play (d .state) (d .slots) (d .area) (octs xs)) e ∙ ap (λ (d : Answered). goOn d xs) (sym q))
+    let d = ruledBy edition s a (fedAt 1 (t .outcome) r′) in
+    let p : box edition .feed r s a (x ∷ xs) ≡ d = rw e at all in
+    let q : box edition .feed r s a (x ∷ []) ≡ d = rw e at first in
+    p ∙ ends-there edition (t .outcome) r′ s a (play edition (d .state) (d .slots) (d .area) (octs xs)) e ∙ ap (λ (d : Answered). goOn edition d xs) (sym q))
     (λ e.
-    let p : box .feed r s a (x ∷ xs) ≡ ruledBy s a (feedFrom 1 r′ xs) = rw e at all in
-    let q : box .feed r s a (x ∷ []) ≡ answer 1 none r′ s a = rw e at one in
-    p ∙ ap (ruledBy s a) (fed-later xs 1 0 r′) ∙ ruled-later 1 (feedFrom 0 r′ xs) s a ∙ ap (more 1) (sym (box-feed R′ xs) ∙ feed-as-play xs R′)
-    ∙ ap (λ (d : Answered). goOn d xs) (sym q))
+    let p : box edition .feed r s a (x ∷ xs) ≡ ruledBy edition s a (feedFrom 1 r′ xs) = rw e at all in
+    let q : box edition .feed r s a (x ∷ []) ≡ answer 1 none r′ s a = rw e at first in
+    p ∙ ap (ruledBy edition s a) (fed-later xs 1 0 r′) ∙ ruled-later edition 1 (feedFrom 0 r′ xs) s a ∙ ap (more 1) (sym (box-feed edition R′ xs) ∙ feed-as-play edition xs R′)
+    ∙ ap (λ (d : Answered). goOn edition d xs) (sym q))

@@ -8,6 +8,7 @@ use lib.ListN.{length, take, drop, drop-of-length-le, length-drop}
 use lib.Seq.{drop-drop}
 use Rattle.octets.specs.Choice.{pick, pick-not, impossible}
 use Rattle.runs.specs.Offered.{answer}
+use Rattle.apdu.specs.declared.Edition.{Edition}
 use Rattle.frames.specs.declared.Link.{Link}
 use Rattle.frames.specs.Step as Frames
 use Rattle.rebuild.specs.View.{view}
@@ -25,13 +26,14 @@ more-course : (m n : ℕ) (w : Course) → moreOf m (moreOf n w) ≡ moreOf (m +
 more-course m n w = ap (course (w .number)) (more-more m n (w .left))
 
 -- the report is behind what the turn left, and n records were eaten before
-comes-more : (n : ℕ) {w : Course} {report report′ area′ store′ : List ℕ} (r : Lap) (moved : Bool) → Comes w report (turnOver r store′) report′ area′
-    → Comes (moreOf n w) report (wentOver (record { refused = r .number; eaten = n + r .eaten; reported = r .reported; moved = moved; link = r .link; slots = r .slots }) store′) report′ area′
-comes-more n r moved C =
+comes-more : (edition : Edition) (n : ℕ) {w : Course} {report report′ area′ store′ : List ℕ} (r : Lap) (moved : Bool) → Comes edition w report (turnOver edition r store′) report′ area′
+    → Comes edition (moreOf n w) report (wentOver edition (record { refused = r .number; eaten = n + r .eaten; reported = r .reported; moved = moved; link = r .link; slots = r .slots }) store′) report′ area′
+comes-more edition n r moved C =
     record {
       refused = C .refused;
       eaten = ap (λ (m : ℕ). n + m) (C .eaten);
       reported = C .reported;
+      edition = C .edition;
       receiver = C .receiver;
       slots = C .slots;
       reportAfter = C .reportAfter;
@@ -43,14 +45,14 @@ abbrev leftAt : List ℕ → ℕ → List ℕ
 leftAt o at = take (length o - at) (drop at o)
 
 -- a replay on its way: n records eaten, the octets from `at` on left
-pub record Onward (l₀ : Link) (t₀ : Slots) (store₀ report₀ area₀ o : List ℕ) (moved : Bool) (l : Link) (t : Slots) (store report area : List ℕ) (n at : ℕ) : Type 0 where
+pub record Onward (edition : Edition) (l₀ : Link) (t₀ : Slots) (store₀ report₀ area₀ o : List ℕ) (moved : Bool) (l : Link) (t : Slots) (store report area : List ℕ) (n at : ℕ) : Type 0 where
   pub lends : Lends l t store report area
   pub quiet : report ≡ report₀
   pub place : at ≡ recordSize * n
   pub within : at ≤ length o
   pub whole : length o % recordSize ≡ 0
   pub sized : length area ≡ length area₀
-  pub rest : courseOf (Frames.over l₀ store₀) (view t₀) area₀ o ≡ moreOf n (courseOf (Frames.over l store) (view t) area (drop at o))
+  pub rest : courseOf edition (Frames.over l₀ store₀) (view t₀) area₀ o ≡ moreOf n (courseOf edition (Frames.over l store) (view t) area (drop at o))
   pub kept : Kept moved t₀ t
 
 more-none : (w : Course) → w ≡ moreOf 0 w
@@ -58,13 +60,13 @@ more-none w = let z : w .left .eaten ≡ 0 + w .left .eaten = omega arith in
     ap (λ (n : ℕ). course (w .number) (answer n (w .left .said) (w .left .state) (w .left .slots) (w .left .area))) z
 
 -- the start
-pub onward-none : (l : Link) (t : Slots) (store report area o : List ℕ) → Lends l t store report area → length o % recordSize ≡ 0
-    → Onward l t store report area o false l t store report area 0 0
-onward-none l t store report area o A w =
-    record { lends = A; quiet = refl; place = refl; within = omega arith; whole = w; sized = refl; rest = more-none (courseOf (Frames.over l store) (view t) area o); kept = λ x. refl }
+pub onward-none : (edition : Edition) (l : Link) (t : Slots) (store report area o : List ℕ) → Lends l t store report area → length o % recordSize ≡ 0
+    → Onward edition l t store report area o false l t store report area 0 0
+onward-none edition l t store report area o A w =
+    record { lends = A; quiet = refl; place = refl; within = omega arith; whole = w; sized = refl; rest = more-none (courseOf edition (Frames.over l store) (view t) area o); kept = λ x. refl }
 
-module _ (l₀ : Link) (t₀ : Slots) (store₀ report₀ area₀ o : List ℕ) {moved : Bool} {l : Link} {t : Slots} {store report area : List ℕ} {n at : ℕ}
-    (S : Onward l₀ t₀ store₀ report₀ area₀ o moved l t store report area n at) where
+module _ (edition : Edition) (l₀ : Link) (t₀ : Slots) (store₀ report₀ area₀ o : List ℕ) {moved : Bool} {l : Link} {t : Slots} {store report area : List ℕ} {n at : ℕ}
+    (S : Onward edition l₀ t₀ store₀ report₀ area₀ o moved l t store report area n at) where
   -- a record is left
   pub record-left : at < length o → LendsRecord l t store report area (leftAt o at)
   record-left h =
@@ -73,8 +75,8 @@ module _ (l₀ : Link) (t₀ : Slots) (store₀ report₀ area₀ o : List ℕ) 
       let some : recordSize ≤ length (drop at o) = simp length-drop (omega arith) in
       record { lends = S .lends; some = rw (part-rest o at) some }
 
-  module _ (r : Lap) {store′ report′ area′ : List ℕ} (turned : Turned l t store report area (leftAt o at) r store′ report′ area′) where
-    T : Turned l t store report area (drop at o) r store′ report′ area′
+  module _ (r : Lap) {store′ report′ area′ : List ℕ} (turned : Turned edition l t store report area (leftAt o at) r store′ report′ area′) where
+    T : Turned edition l t store report area (drop at o) r store′ report′ area′
     T = rw (part-rest o at) at turned
 
     -- slots that moved neither before nor in this turn
@@ -85,12 +87,12 @@ module _ (l₀ : Link) (t₀ : Slots) (store₀ report₀ area₀ o : List ℕ) 
 
     -- the turn ends the replay
     pub onward-ends : r .ends ≡ true → {m : Bool} → m ≡ pick moved true (r .moved)
-        → Runs l₀ t₀ store₀ report₀ area₀ o (record { refused = r .number; eaten = n + r .eaten; reported = r .reported; moved = m; link = r .link; slots = r .slots }) store′ report′ area′
-    onward-ends e {m} k = record { comes = rw (S .rest, ← S .quiet) (comes-more n r m (T .ends e)); kept = rw k kept-on }
+        → Runs edition l₀ t₀ store₀ report₀ area₀ o (record { refused = r .number; eaten = n + r .eaten; reported = r .reported; moved = m; link = r .link; slots = r .slots }) store′ report′ area′
+    onward-ends e {m} k = record { comes = rw (S .rest, ← S .quiet) (comes-more edition n r m (T .ends e)); kept = rw k kept-on }
 
     -- or it goes on
     pub onward-goes : r .ends ≡ false → {m : Bool} → m ≡ pick moved true (r .moved)
-        → Onward l₀ t₀ store₀ report₀ area₀ o m (r .link) (r .slots) store′ report′ area′ (n + r .eaten) (at + recordSize * r .eaten)
+        → Onward edition l₀ t₀ store₀ report₀ area₀ o m (r .link) (r .slots) store′ report′ area′ (n + r .eaten) (at + recordSize * r .eaten)
     onward-goes e k =
         let G = T .goes e in
         record {
@@ -100,7 +102,7 @@ module _ (l₀ : Link) (t₀ : Slots) (store₀ report₀ area₀ o : List ℕ) 
           within = (let p = S .within in let q : recordSize * r .eaten ≤ length o - at = simp length-drop at (T .within) in omega arith);
           whole = S .whole;
           sized = T .sized ∙ S .sized;
-          rest = S .rest ∙ ap (moreOf n) (G .rest) ∙ more-course n (r .eaten) _ ∙ ap (λ (x : List ℕ). moreOf (n + r .eaten) (courseOf (Frames.over (r .link) store′) (view (r .slots)) area′ x)) (drop-drop (recordSize * r .eaten) at o);
+          rest = S .rest ∙ ap (moreOf n) (G .rest) ∙ more-course n (r .eaten) _ ∙ ap (λ (x : List ℕ). moreOf (n + r .eaten) (courseOf edition (Frames.over (r .link) store′) (view (r .slots)) area′ x)) (drop-drop (recordSize * r .eaten) at o);
           kept = rw k kept-on;
         }
 
@@ -112,10 +114,10 @@ module _ (l₀ : Link) (t₀ : Slots) (store₀ report₀ area₀ o : List ℕ) 
     onward-less e = let p = onward-most in let q = T .goes e .some in omega arith
 
   -- nothing is left
-  pub onward-over : length o ≤ at → Runs l₀ t₀ store₀ report₀ area₀ o (record { refused = 0; eaten = n; reported = false; moved = moved; link = l; slots = t }) store report area
+  pub onward-over : length o ≤ at → Runs edition l₀ t₀ store₀ report₀ area₀ o (record { refused = 0; eaten = n; reported = false; moved = moved; link = l; slots = t }) store report area
   unfolding courseOf
   onward-over h =
       record {
-        comes = rw (S .rest, drop-of-length-le o h) (record { refused = refl; eaten = omega arith; reported = refl; receiver = refl; slots = refl; reportAfter = S .quiet; areaAfter = refl });
+        comes = rw (S .rest, drop-of-length-le o h) (record { refused = refl; eaten = omega arith; reported = refl; edition = refl; receiver = refl; slots = refl; reportAfter = S .quiet; areaAfter = refl });
         kept = S .kept;
       }

@@ -7,6 +7,7 @@ use lib.Dec.{eqb}
 use lib.ListN.{length}
 use borrow.Author.Tests.{eqb-true, eq-eqb, ne-eqb, not-true, not-false}
 use Rattle.octets.specs.Choice.{pick, both, both-false, by-test, impossible}
+use Rattle.apdu.specs.declared.Edition.{Edition}
 use Rattle.frames.specs.declared.Link.{Link}
 use Rattle.frames.specs.Step as Frames
 use Rattle.frames.specs.Step.{soundIn}
@@ -61,39 +62,40 @@ ready-by l t store report area e =
     eqb-is : eqb (length report) reportSize ≡ true → length report ≡ reportSize
     eqb-is k = eqb-true (length report) reportSize k
 
-module _ (l : Link) (t : Slots) (store report area o : List ℕ) {n : ℕ} (J : Judges l t (length report) (length area) n) where
-  judged-is : n ≡ feedRefusal (over l t store) report area
+pub lends-whole : (l : Link) (t : Slots) (store report area o : List ℕ) {n : ℕ} → Judges l t (length report) (length area) n → n ≡ 0 → length o % recordSize ≡ 0 → length store ≡ 501
+    → LendsWhole l t store report area o
+lends-whole l t store report area o J z w s =
+    let p = ready-by l t store report area (sym (J store) ∙ z) in
+    record { lends = record { ready = p .1; stored = s; line = p .0 }; whole = w }
+
+module _ (edition : Edition) (l : Link) (t : Slots) (store report area o : List ℕ) {n : ℕ} (J : Judges l t (length report) (length area) n) where
+  judged-is : n ≡ feedRefusal (over edition l t store) report area
   unfolding feedRefusal
   judged-is = J store
 
-  comes-not : (m : ℕ) → Comes (barred m (over l t store) area) report (wentOver (stayed m l t) store) report area
-  comes-not m = record { refused = refl; eaten = refl; reported = refl; receiver = refl; slots = refl; reportAfter = refl; areaAfter = refl }
+  comes-not : (m : ℕ) → Comes edition (barred m (over edition l t store) area) report (wentOver edition (stayed m l t) store) report area
+  comes-not m = record { refused = refl; eaten = refl; reported = refl; edition = refl; receiver = refl; slots = refl; reportAfter = refl; areaAfter = refl }
 
-  stays : (m : ℕ) → (m ≡ 0 → ⊥) → playRefusal (over l t store) report area o ≡ m → {r : Went} → r ≡ stayed m l t → Replays l t store report area o r store report area
+  stays : (m : ℕ) → (m ≡ 0 → ⊥) → playRefusal (over edition l t store) report area o ≡ m → {r : Went} → r ≡ stayed m l t → Replays edition l t store report area o r store report area
   unfolding playing
   stays m h q u = rw u (record { plays = rw (q, ne-eqb m 0 h) (comes-not m); kept = λ x. refl })
 
   -- 60 and 59
-  pub stays-barred : (n ≡ 0 → ⊥) → {r : Went} → r ≡ stayed n l t → Replays l t store report area o r store report area
+  pub stays-barred : (n ≡ 0 → ⊥) → {r : Went} → r ≡ stayed n l t → Replays edition l t store report area o r store report area
   unfolding playRefusal
   stays-barred h u = stays n h (rw (← judged-is, ne-eqb n 0 h)) u
 
   module _ (z : n ≡ 0) where
     -- 68
-    pub stays-odd : (length o % recordSize ≡ 0 → ⊥) → {r : Went} → r ≡ stayed 68 l t → Replays l t store report area o r store report area
+    pub stays-odd : (length o % recordSize ≡ 0 → ⊥) → {r : Went} → r ≡ stayed 68 l t → Replays edition l t store report area o r store report area
     unfolding playRefusal
     stays-odd h u = stays 68 (λ e. impossible (cc)) (rw (← judged-is, z, ne-eqb (length o % recordSize) 0 h)) u
 
     module _ (w : length o % recordSize ≡ 0) where
-      pub lends-whole : length store ≡ 501 → LendsWhole l t store report area o
-      lends-whole s =
-          let p = ready-by l t store report area (sym (J store) ∙ z) in
-          record { lends = record { ready = p .1; stored = s; line = p .0 }; whole = w }
-
-      none-refused : playRefusal (over l t store) report area o ≡ 0
+      none-refused : playRefusal (over edition l t store) report area o ≡ 0
       unfolding playRefusal
       none-refused = rw (← judged-is, z, eq-eqb (length o % recordSize) 0 w)
 
-      pub replays : {r : Went} {store′ report′ area′ : List ℕ} → Runs l t store report area o r store′ report′ area′ → Replays l t store report area o r store′ report′ area′
+      pub replays : {r : Went} {store′ report′ area′ : List ℕ} → Runs edition l t store report area o r store′ report′ area′ → Replays edition l t store report area o r store′ report′ area′
       unfolding playing
       replays R = record { plays = rw none-refused (R .comes); kept = R .kept }

@@ -15,6 +15,7 @@ use Rattle.runs.specs.Run.Order.{trunk, forget}
 use Rattle.runs.specs.Offered.{answer}
 use Rattle.frames.specs.declared.Outcome.{Outcome}
 use Rattle.frames.specs.declared.Outcome.the-variants.{Quiet, Frame, Damage}
+use Rattle.apdu.specs.declared.Edition.{Edition}
 use Rattle.frames.specs.declared.Link.{Link}
 use Rattle.frames.specs.declared.Stilled.{Stilled}
 use Rattle.frames.specs.declared.Fell.{Fell}
@@ -108,15 +109,15 @@ pub record Leaves (d : Answered) (report : List ℕ) (r : Lap) (store′ report�
   pub reportAfter : report′ ≡ written (d .said) report
   pub areaAfter : area′ ≡ d .area
 
-module _ (d : Answered) (report o : List ℕ) (r : Lap) (store′ report′ area′ : List ℕ) (L : Leaves d report r store′ report′ area′) (w rest : Course) where
-  ends-by : (x : Option (List ℕ)) → d .said ≡ x → w ≡ furtherOf x d rest → r .ends ≡ true → Comes w report (turnOver r store′) report′ area′
+module _ (edition : Edition) (d : Answered) (report o : List ℕ) (r : Lap) (store′ report′ area′ : List ℕ) (L : Leaves d report r store′ report′ area′) (w rest : Course) where
+  ends-by : (x : Option (List ℕ)) → d .said ≡ x → w ≡ furtherOf x d rest → r .ends ≡ true → Comes edition w report (turnOver edition r store′) report′ area′
   ends-by none q e t = impossible (let z : false ≡ true = ap saidSo (sym q) ∙ sym (L .ends) ∙ t in cc)
   ends-by (some p) q e t =
-      rw e (record { refused = L .number; eaten = L .eaten; reported = L .reported; receiver = L .receiver; slots = L .slots; reportAfter = L .reportAfter; areaAfter = L .areaAfter })
+      rw e (record { refused = L .number; eaten = L .eaten; reported = L .reported; edition = refl; receiver = L .receiver; slots = L .slots; reportAfter = L .reportAfter; areaAfter = L .areaAfter })
 
   goes-by : (x : Option (List ℕ)) → d .said ≡ x → w ≡ furtherOf x d rest → ReadyAt d
-      → (d .said ≡ none → (0 < d .eaten) × (rest ≡ courseOf (d .state) (d .slots) (d .area) (drop (recordSize * d .eaten) o)))
-      → r .ends ≡ false → GoesOn w report o r store′ report′ area′
+      → (d .said ≡ none → (0 < d .eaten) × (rest ≡ courseOf edition (d .state) (d .slots) (d .area) (drop (recordSize * d .eaten) o)))
+      → r .ends ≡ false → GoesOn edition w report o r store′ report′ area′
   goes-by none q e R h t =
       record {
         some = rw (L .eaten) (h q .0);
@@ -127,21 +128,28 @@ module _ (d : Answered) (report o : List ℕ) (r : Lap) (store′ report′ area
   goes-by (some p) q e R h t = impossible (let z : true ≡ false = ap saidSo (sym q) ∙ sym (L .ends) ∙ t in cc)
 
 -- ---- the turns
-module _ (l : Link) (t : Slots) (store report area o : List ℕ) where
+-- an octet: what eating asks
+pub turn-octet : (l : Link) (t : Slots) (store report area o : List ℕ) → LendsRecord l t store report area o → {y : Record} → y ≡ recordBy (firstOf o) → {x : ℕ} → y ≡ Octet x
+    → LendsOctet l t store report area o
+turn-octet l t store report area o A b {x} e =
+    let q = order-is (oct o 0) (oct o 1) (oct o 2) (oct o 3) (trunk (octet x)) (sounds (firstOf o) x (sym b ∙ e)) in
+    record { lends = A .lends; first = record { whole = A .some; kind = (cc); third = (cc); fourth = (cc) } }
+
+module _ (edition : Edition) (l : Link) (t : Slots) (store report area o : List ℕ) where
   -- an order that is eaten by itself
   alone : LendsRecord l t store report area o → (y : Order) → firstOf o ≡ some y → {r : Lap} {store′ report′ area′ : List ℕ}
-      → (let d = one y (Frames.over l store) (view t) area in
+      → (let d = one edition y (Frames.over l store) (view t) area in
       Leaves (answer 1 (d .said) (d .state) (d .slots) (d .area)) report r store′ report′ area′)
-      → length store′ ≡ length store → length area′ ≡ length area → Kept (r .moved) t (r .slots) → Turned l t store report area o r store′ report′ area′
+      → length store′ ≡ length store → length area′ ≡ length area → Kept (r .moved) t (r .slots) → Turned edition l t store report area o r store′ report′ area′
   alone A y q {r} {store′} {report′} {area′} L s z k =
-      let d = one y (Frames.over l store) (view t) area in
+      let d = one edition y (Frames.over l store) (view t) area in
       let e = answer 1 (d .said) (d .state) (d .slots) (d .area) in
-      let w = courseOf (Frames.over l store) (view t) area o in
-      let rest = courseOf (d .state) (d .slots) (d .area) (drop recordSize o) in
-      let c : w ≡ furtherOf (d .said) e rest = course-first o (Frames.over l store) (view t) area y (A .some) q in
+      let w = courseOf edition (Frames.over l store) (view t) area o in
+      let rest = courseOf edition (d .state) (d .slots) (d .area) (drop recordSize o) in
+      let c : w ≡ furtherOf (d .said) e rest = course-first edition o (Frames.over l store) (view t) area y (A .some) q in
       record {
-        ends = ends-by e report o r store′ report′ area′ L w rest (d .said) refl c;
-        goes = goes-by e report o r store′ report′ area′ L w rest (d .said) refl c (one-ready (A .lends .ready) y) (λ x. (omega arith, refl));
+        ends = ends-by edition e report o r store′ report′ area′ L w rest (d .said) refl c;
+        goes = goes-by edition e report o r store′ report′ area′ L w rest (d .said) refl c (one-ready edition (A .lends .ready) y) (λ x. (omega arith, refl));
         within = rw (L .eaten) (A .some);
         stored = s;
         sized = z;
@@ -150,11 +158,11 @@ module _ (l : Link) (t : Slots) (store report area o : List ℕ) where
 
   module _ (A : LendsRecord l t store report area o) {y : Record} (b : y ≡ recordBy (firstOf o)) where
     -- a bad record: 67
-    pub turn-bad : y ≡ Bad → Turned l t store report area o (record { ends = true; number = 67; eaten = 0; reported = false; moved = false; link = l; slots = t }) store report area
+    pub turn-bad : y ≡ Bad → Turned edition l t store report area o (record { ends = true; number = 67; eaten = 0; reported = false; moved = false; link = l; slots = t }) store report area
     turn-bad e =
-        let c = course-bad o (Frames.over l store) (view t) area (A .some) (breaks (firstOf o) (sym b ∙ e)) in
+        let c = course-bad edition o (Frames.over l store) (view t) area (A .some) (breaks (firstOf o) (sym b ∙ e)) in
         record {
-          ends = λ x. rw c (record { refused = refl; eaten = refl; reported = refl; receiver = refl; slots = refl; reportAfter = refl; areaAfter = refl });
+          ends = λ x. rw c (record { refused = refl; eaten = refl; reported = refl; edition = refl; receiver = refl; slots = refl; reportAfter = refl; areaAfter = refl });
           goes = λ x. impossible (cc);
           within = omega arith;
           stored = refl;
@@ -163,12 +171,12 @@ module _ (l : Link) (t : Slots) (store report area o : List ℕ) where
         }
 
     -- a silence
-    still-is : one (trunk silence) (Frames.over l store) (view t) area ≡ answer 0 (hushed l) (Frames.over (stilledOf l .link) store) (view t) area
+    still-is : one edition (trunk silence) (Frames.over l store) (view t) area ≡ answer 0 (hushed l) (Frames.over (stilledOf l .link) store) (view t) area
     unfolding one
     still-is = rw (A .lends .ready .slots) (ap (λ (f : Fell). stilled damageOctets (view t) area f) (sym (silence-over l store)))
 
     pub turn-silence : y ≡ Silence → (h : Lull) {report′ : List ℕ} → Hushes l report h report′
-        → Turned l t store report area o (record { ends = h .reported; number = 0; eaten = 1; reported = h .reported; moved = false; link = h .link; slots = t }) store report′ area
+        → Turned edition l t store report area o (record { ends = h .reported; number = 0; eaten = 1; reported = h .reported; moved = false; link = h .link; slots = t }) store report′ area
     turn-silence e h H =
         alone A (trunk silence) (silent (firstOf o) (sym b ∙ e))
         (rw still-is (record {
@@ -184,22 +192,16 @@ module _ (l : Link) (t : Slots) (store report area o : List ℕ) where
         refl refl (λ x. refl)
 
     -- a forget order, whether it answers 0 or 56
-    free-is : (i : ℕ) (f : Forgot) → Rebuild.Forgets t i f → one (forget i) (Frames.over l store) (view t) area ≡ answer 1 none (Frames.over l store) (view (f .slots)) area
+    free-is : (i : ℕ) (f : Forgot) → Rebuild.Forgets t i f → one edition (forget i) (Frames.over l store) (view t) area ≡ answer 1 none (Frames.over l store) (view (f .slots)) area
     unfolding one
     free-is i f F = rw (A .lends .ready .slots, A .lends .ready .receiver, F .slots)
 
     pub turn-forget : {i : ℕ} → y ≡ Forget i → (f : Forgot) → Rebuild.Forgets t i f
-        → Turned l t store report area o (record { ends = false; number = 0; eaten = 1; reported = false; moved = true; link = l; slots = f .slots }) store report area
+        → Turned edition l t store report area o (record { ends = false; number = 0; eaten = 1; reported = false; moved = true; link = l; slots = f .slots }) store report area
     turn-forget {i} e f F =
         alone A (forget i) (forgets (firstOf o) i (sym b ∙ e))
         (rw (free-is i f F) (record { ends = refl; number = refl; eaten = refl; reported = refl; receiver = refl; slots = refl; reportAfter = refl; areaAfter = refl }))
         refl refl (λ x. impossible (cc))
-
-    -- an octet: what eating asks
-    pub turn-octet : {x : ℕ} → y ≡ Octet x → LendsOctet l t store report area o
-    turn-octet {x} e =
-        let q = order-is (oct o 0) (oct o 1) (oct o 2) (oct o 3) (trunk (octet x)) (sounds (firstOf o) x (sym b ∙ e)) in
-        record { lends = A .lends; first = record { whole = A .some; kind = (cc); third = (cc); fourth = (cc) } }
 
   -- octets fed together
   octs-length : (xs : List ℕ) → length (octs xs) ≡ length xs
@@ -207,14 +209,14 @@ module _ (l : Link) (t : Slots) (store report area o : List ℕ) where
   octs-length (x ∷ xs) = let z = octs-length xs in omega arith
 
   pub turn-eat : LendsOctet l t store report area o → (piece : List ℕ) (k : ℕ) → Gathered o piece k → (f : Ate) {store′ report′ area′ : List ℕ}
-      → Eats l t store report area (take k piece) f store′ report′ area′ → length store′ ≡ length store → length area′ ≡ length area
-      → Turned l t store report area o (record { ends = f .reported; number = 0; eaten = f .eaten; reported = f .reported; moved = f .moved; link = f .link; slots = f .slots }) store′ report′ area′
+      → Eats edition l t store report area (take k piece) f store′ report′ area′ → length store′ ≡ length store → length area′ ≡ length area
+      → Turned edition l t store report area o (record { ends = f .reported; number = 0; eaten = f .eaten; reported = f .reported; moved = f .moved; link = f .link; slots = f .slots }) store′ report′ area′
   turn-eat A piece k G f {store′} {report′} {area′} E s z =
       let r = Frames.over l store in
       let xs = take k piece in
-      let p = play r (view t) area (octs xs) in
+      let p = play edition r (view t) area (octs xs) in
       let R = A .lends .ready in
-      let same : feeding (over l t store) report area xs ≡ p = feeding-box (over l t store) report area xs (A .lends .line) ∙ feed-as-play xs R in
+      let same : feeding (over edition l t store) report area xs ≡ p = feeding-box (over edition l t store) report area xs (A .lends .line) ∙ feed-as-play edition xs R in
       let n : length (octs xs) ≡ k = octs-length xs ∙ length-take-le k piece (G .few) in
       let F = E .feeds in
       let lap : Lap = record { ends = f .reported; number = 0; eaten = f .eaten; reported = f .reported; moved = f .moved; link = f .link; slots = f .slots } in
@@ -229,19 +231,19 @@ module _ (l : Link) (t : Slots) (store report area o : List ℕ) where
         reportAfter = F .reportAfter;
         areaAfter = F .areaAfter;
       }) in
-      let w = courseOf r (view t) area o in
-      let rest = courseOf (p .state) (p .slots) (p .area) (drop (recordSize * k) o) in
+      let w = courseOf edition r (view t) area o in
+      let rest = courseOf edition (p .state) (p .slots) (p .area) (drop (recordSize * k) o) in
       let c : w ≡ furtherOf (p .said) p rest =
-      ap (courseOf r (view t) area) (G .front) ∙ course-on (octs xs) (drop (recordSize * k) o) r (view t) area in
-      let most = play-most (octs xs) r (view t) area in
+      ap (courseOf edition r (view t) area) (G .front) ∙ course-on edition (octs xs) (drop (recordSize * k) o) r (view t) area in
+      let most = play-most edition (octs xs) r (view t) area in
       record {
-        ends = ends-by p report o lap store′ report′ area′ L w rest (p .said) refl c;
-        goes = goes-by p report o lap store′ report′ area′ L w rest (p .said) refl c (subst ReadyAt (feed-as-play xs R) (feed-ready R xs))
+        ends = ends-by edition p report o lap store′ report′ area′ L w rest (p .said) refl c;
+        goes = goes-by edition p report o lap store′ report′ area′ L w rest (p .said) refl c (subst ReadyAt (feed-as-play edition xs R) (feed-ready edition R xs))
             (λ q. (
-              play-some (octs xs) r (view t) area (rw n (G .some)),
+              play-some edition (octs xs) r (view t) area (rw n (G .some)),
               (
-                  let z : k ≡ p .eaten = sym (play-all (octs xs) r (view t) area q ∙ n) in
-                  ap (λ (m : ℕ). courseOf (p .state) (p .slots) (p .area) (drop (recordSize * m) o)) z),
+                  let z : k ≡ p .eaten = sym (play-all edition (octs xs) r (view t) area q ∙ n) in
+                  ap (λ (m : ℕ). courseOf edition (p .state) (p .slots) (p .area) (drop (recordSize * m) o)) z),
             ));
         within = (let a = L .eaten in let b = G .within in omega arith);
         stored = s;

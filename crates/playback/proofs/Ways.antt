@@ -18,7 +18,7 @@ use Rattle.playback.specs.Calls.{courseOf, barred, playRefusal, playing}
 pub data Way (c : Collector) (report area o : List ℕ) : Type 0 where
   by-state : (n : ℕ) → (n ≡ 60) ⊎ (n ≡ 59) → feedRefusal c report area ≡ n → playing c report area o ≡ barred n c area → Way c report area o
   by-length : feedRefusal c report area ≡ 0 → (length o % recordSize ≡ 0 → ⊥) → playing c report area o ≡ barred 68 c area → Way c report area o
-  through : feedRefusal c report area ≡ 0 → length o % recordSize ≡ 0 → playing c report area o ≡ courseOf (c .receiver) (slotsOf c) area o → Way c report area o
+  through : feedRefusal c report area ≡ 0 → length o % recordSize ≡ 0 → playing c report area o ≡ courseOf (c .edition) (c .receiver) (slotsOf c) area o → Way c report area o
 
 module _ (c : Collector) (report area o : List ℕ) where
   refused-by : (n : ℕ) → eqb n 0 ≡ false → feedRefusal c report area ≡ n → playing c report area o ≡ barred n c area

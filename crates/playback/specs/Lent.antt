@@ -11,6 +11,7 @@ use Rattle.octets.specs.Reading.{oct}
 use Rattle.runs.specs.Run.{Order, octs}
 use Rattle.runs.specs.Run.Event.{octet, silence}
 use Rattle.runs.specs.Run.Order.{trunk, forget}
+use Rattle.apdu.specs.declared.Edition.{Edition}
 use Rattle.frames.specs.declared.Link.{Link}
 use Rattle.frames.specs.Step as Frames
 use Rattle.frames.specs.Step.{stilledOf}
@@ -88,39 +89,39 @@ pub record Hushes (l : Link) (report : List ℕ) (r : Lull) (report′ : List �
   pub reportAfter : report′ ≡ written (hushed l) report
 
 -- ---- one turn: it ends the replay, or the course goes on behind what it ate, from what it left
-abbrev pub turnOver : Lap → List ℕ → Played
-turnOver r s = record { refused = r .number; eaten = r .eaten; reported = r .reported; state = over (r .link) (r .slots) s }
+abbrev pub turnOver : Edition → Lap → List ℕ → Played
+turnOver e r s = record { refused = r .number; eaten = r .eaten; reported = r .reported; state = over e (r .link) (r .slots) s }
 
 abbrev pub moreOf : ℕ → Course → Course
 moreOf n w = course (w .number) (more n (w .left))
 
-pub record GoesOn (w : Course) (report o : List ℕ) (r : Lap) (store′ report′ area′ : List ℕ) : Type 0 where
+pub record GoesOn (e : Edition) (w : Course) (report o : List ℕ) (r : Lap) (store′ report′ area′ : List ℕ) : Type 0 where
   pub some : 0 < r .eaten
   pub ready : Ready (Frames.over (r .link) store′) (view (r .slots)) area′
   pub quiet : report′ ≡ report
-  pub rest : w ≡ moreOf (r .eaten) (courseOf (Frames.over (r .link) store′) (view (r .slots)) area′ (drop (recordSize * r .eaten) o))
+  pub rest : w ≡ moreOf (r .eaten) (courseOf e (Frames.over (r .link) store′) (view (r .slots)) area′ (drop (recordSize * r .eaten) o))
 
-pub record Turned (l : Link) (t : Slots) (store report area o : List ℕ) (r : Lap) (store′ report′ area′ : List ℕ) : Type 0 where
-  pub ends : r .ends ≡ true → Comes (courseOf (Frames.over l store) (view t) area o) report (turnOver r store′) report′ area′
-  pub goes : r .ends ≡ false → GoesOn (courseOf (Frames.over l store) (view t) area o) report o r store′ report′ area′
+pub record Turned (e : Edition) (l : Link) (t : Slots) (store report area o : List ℕ) (r : Lap) (store′ report′ area′ : List ℕ) : Type 0 where
+  pub ends : r .ends ≡ true → Comes e (courseOf e (Frames.over l store) (view t) area o) report (turnOver e r store′) report′ area′
+  pub goes : r .ends ≡ false → GoesOn e (courseOf e (Frames.over l store) (view t) area o) report o r store′ report′ area′
   pub within : recordSize * r .eaten ≤ length o
   pub stored : length store′ ≡ length store
   pub sized : length area′ ≡ length area
   pub kept : Kept (r .moved) t (r .slots)
 
 -- ---- all turns, and the call
-abbrev pub wentOver : Went → List ℕ → Played
-wentOver r s = record { refused = r .refused; eaten = r .eaten; reported = r .reported; state = over (r .link) (r .slots) s }
+abbrev pub wentOver : Edition → Went → List ℕ → Played
+wentOver e r s = record { refused = r .refused; eaten = r .eaten; reported = r .reported; state = over e (r .link) (r .slots) s }
 
-pub record Runs (l : Link) (t : Slots) (store report area o : List ℕ) (r : Went) (store′ report′ area′ : List ℕ) : Type 0 where
-  pub comes : Comes (courseOf (Frames.over l store) (view t) area o) report (wentOver r store′) report′ area′
+pub record Runs (e : Edition) (l : Link) (t : Slots) (store report area o : List ℕ) (r : Went) (store′ report′ area′ : List ℕ) : Type 0 where
+  pub comes : Comes e (courseOf e (Frames.over l store) (view t) area o) report (wentOver e r store′) report′ area′
   pub kept : Kept (r .moved) t (r .slots)
 
 -- a refused call: nothing eaten, nothing changed
 abbrev pub stayed : ℕ → Link → Slots → Went
 stayed n l t = record { refused = n; eaten = 0; reported = false; moved = false; link = l; slots = t }
 
--- the call's promise, its link, slots and store put together; slots that have not moved are those that were there
-pub record Replays (l : Link) (t : Slots) (store report area o : List ℕ) (r : Went) (store′ report′ area′ : List ℕ) : Type 0 where
-  pub plays : Plays (over l t store) report area o (wentOver r store′) report′ area′
+-- the call's promise, its edition, link, slots and store put together; slots that have not moved are those that were there
+pub record Replays (e : Edition) (l : Link) (t : Slots) (store report area o : List ℕ) (r : Went) (store′ report′ area′ : List ℕ) : Type 0 where
+  pub plays : Plays (over e l t store) report area o (wentOver e r store′) report′ area′
   pub kept : Kept (r .moved) t (r .slots)

@@ -34,7 +34,7 @@ replaying = Replaying
 -- "Demand 3 holds of the replay too, cut at record borders": from a state and a message area, with a run left to replay whose trunk goes on at place p; any
 -- front part of its records is lent, what was not eaten is offered again; the last state as the rules see it
 abbrev pub Replayed : ℕ → Collector → List ℕ → Run → End → Type 0
-Replayed p c area run e = (d : Collector) × Offer replaying p (c, area) run (e .reports) (d, e .area) × (d .receiver ≡ e .state) × (slotsOf d ≡ e .slots)
+Replayed p c area run e = (d : Collector) × Offer replaying p (c, area) run (e .reports) (d, e .area) × (d .edition ≡ e .state .0) × (d .receiver ≡ e .state .1) × (slotsOf d ≡ e .slots)
 
 -- ---- the orders of a run one after the other, each by its own call of the collector with any answer that it promises; the last alone may report
 pub data OneByOne : WithArea → Run → Option (List ℕ) → WithArea → Type 0 where

@@ -1,6 +1,7 @@
-// The same call over a lent frame store: link and slots go in and come back, the store stays where it is.
+// The same call over a lent frame store: link and slots go in and come back, the store stays where it is, the edition with whoever lends it.
 use crate::orders;
 use crate::orders::Record;
+use apdu::Edition;
 use collector::frame;
 use frames::Link;
 use frames::Outcome;
@@ -130,6 +131,7 @@ fn span(link: Link) -> usize
 
 // The octet records in front: the link eats them together, and what the last of them ended is done as feeding does it.
 fn eat(
+    edition: Edition,
     link: Link,
     slots: Slots,
     store: &mut [u8],
@@ -138,7 +140,7 @@ fn eat(
     area: &mut [u8],
 ) -> Lap
     requires { ⌜ LendsOctet link slots (now store) (now report) (now area) (now rest) ⌝ }
-    ensures { λ r. ⌜ Turned link slots (now (store .entry)) (now (report .entry)) (now (area .entry)) (now (rest .entry)) r (now (store .exit)) (now (report .exit)) (now (area .exit)) ⌝ }
+    ensures { λ r. ⌜ Turned edition link slots (now (store .entry)) (now (report .entry)) (now (area .entry)) (now (rest .entry)) r (now (store .exit)) (now (report .exit)) (now (area .exit)) ⌝ }
 {
     let mut piece: [u8; 64] = [0; 64];
     let n = orders::gather(rest, span(link), &mut piece);
@@ -172,7 +174,7 @@ fn eat(
             let head = link.head;
             let n = frames::length_of(head) as usize;
             if frame::carries(head) {
-                let slots = frame::act(head, &store[..n], slots, report, area);
+                let slots = frame::act(edition, head, &store[..n], slots, report, area);
                 return Lap {
                     ends: true,
                     number: 0,
@@ -199,6 +201,7 @@ fn eat(
 
 // The next record, and the octet records that follow one.
 fn turn(
+    edition: Edition,
     link: Link,
     slots: Slots,
     store: &mut [u8],
@@ -207,10 +210,10 @@ fn turn(
     area: &mut [u8],
 ) -> Lap
     requires { ⌜ LendsRecord link slots (now store) (now report) (now area) (now rest) ⌝ }
-    ensures { λ r. ⌜ Turned link slots (now (store .entry)) (now (report .entry)) (now (area .entry)) (now (rest .entry)) r (now (store .exit)) (now (report .exit)) (now (area .exit)) ⌝ }
+    ensures { λ r. ⌜ Turned edition link slots (now (store .entry)) (now (report .entry)) (now (area .entry)) (now (rest .entry)) r (now (store .exit)) (now (report .exit)) (now (area .exit)) ⌝ }
 {
     match orders::record_of(rest[0], rest[1], rest[2], rest[3]) {
-        Record::Octet(_) => eat(link, slots, store, rest, report, area),
+        Record::Octet(_) => eat(edition, link, slots, store, rest, report, area),
         Record::Silence => {
             let f = hush(link, report);
             let link = f.link;
@@ -261,6 +264,7 @@ fn either(before: bool, here: bool) -> bool
 
 // The records, turn by turn, in a state that 59 passes.
 fn run(
+    edition: Edition,
     link: Link,
     slots: Slots,
     store: &mut [u8],
@@ -269,7 +273,7 @@ fn run(
     area: &mut [u8],
 ) -> Went
     requires { ⌜ LendsWhole link slots (now store) (now report) (now area) (now records) ⌝ }
-    ensures { λ r. ⌜ Runs link slots (now (store .entry)) (now (report .entry)) (now (area .entry)) (now (records .entry)) r (now (store .exit)) (now (report .exit)) (now (area .exit)) ⌝ }
+    ensures { λ r. ⌜ Runs edition link slots (now (store .entry)) (now (report .entry)) (now (area .entry)) (now (records .entry)) r (now (store .exit)) (now (report .exit)) (now (area .exit)) ⌝ }
 {
     let mut link = link;
     let mut slots = slots;
@@ -277,7 +281,7 @@ fn run(
     let mut eaten = 0;
     let mut at = 0;
     while at < records.len() {
-        let t = turn(link, slots, store, &records[at..], report, area);
+        let t = turn(edition, link, slots, store, &records[at..], report, area);
         let n = t.eaten;
         eaten += n;
         at += 4 * n;
@@ -307,6 +311,7 @@ fn run(
 
 // Eats records through the first that causes a report, else up to a bad one, else all.
 pub fn replay(
+    edition: Edition,
     link: Link,
     slots: Slots,
     store: &mut [u8],
@@ -315,7 +320,7 @@ pub fn replay(
     area: &mut [u8],
 ) -> Went
     requires { ⌜ length (now store) ≡ 501 ⌝ }
-    ensures { λ r. ⌜ Replays link slots (now (store .entry)) (now (report .entry)) (now (area .entry)) (now (records .entry)) r (now (store .exit)) (now (report .exit)) (now (area .exit)) ⌝ }
+    ensures { λ r. ⌜ Replays edition link slots (now (store .entry)) (now (report .entry)) (now (area .entry)) (now (records .entry)) r (now (store .exit)) (now (report .exit)) (now (area .exit)) ⌝ }
 {
     let barred = judge(link, slots, report.len(), area.len());
     if barred != 0 {
@@ -324,5 +329,5 @@ pub fn replay(
     if records.len() % 4 != 0 {
         return stay(link, slots, 68);
     }
-    run(link, slots, store, records, report, area)
+    run(edition, link, slots, store, records, report, area)
 }

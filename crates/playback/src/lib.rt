@@ -21,10 +21,11 @@ pub struct Played {
 pub fn replay(state: Collector, records: &[u8], report: &mut [u8], area: &mut [u8]) -> Played
     ensures { λ r. ⌜ Plays state (now (report .entry)) (now (area .entry)) (now (records .entry)) r (now (report .exit)) (now (area .exit)) ⌝ }
 {
+    let edition = state.edition;
     let link = state.receiver.link;
     let mut store = state.receiver.store;
     let slots = state.slots;
-    let w = lent::replay(link, slots, &mut store, records, report, area);
+    let w = lent::replay(edition, link, slots, &mut store, records, report, area);
     let link = w.link;
     let slots = w.slots;
     let receiver = Receiver { link, store };
@@ -32,6 +33,10 @@ pub fn replay(state: Collector, records: &[u8], report: &mut [u8], area: &mut [u
         refused: w.refused,
         eaten: w.eaten,
         reported: w.reported,
-        state: Collector { receiver, slots },
+        state: Collector {
+            edition,
+            receiver,
+            slots,
+        },
     }
 }

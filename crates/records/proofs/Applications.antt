@@ -9,7 +9,7 @@ use Rattle.apdu.specs.declared.Pdu.the-variants.{Request, Unconfirmed, SimpleAc
 use Rattle.records.specs.Flag.{flag-back}
 use Rattle.records.specs.Application.{apduRecord, segmentAt, apduAt}
 
-pub apdu-size : (p : Pdu) → length (apduRecord p) ≡ 12
+pub apdu-size : (p : Pdu) → length (apduRecord p) ≡ 13
 apdu-size (Request q) = refl
 apdu-size (Unconfirmed q) = refl
 apdu-size (SimpleAck q) = refl

@@ -14,7 +14,7 @@ ghost use lib.ListN.{length};
 ghost use Rattle.records.specs.Application.{apduRecord, segmentAt, apduAt};
 
 fn segment(o: &[u8]) -> Segment
-    requires { ⌜ length (now o) ≡ 12 ⌝ }
+    requires { ⌜ length (now o) ≡ 13 ⌝ }
     ensures { λ r. ⌜ r ≡ segmentAt (now (o .entry)) ⌝ }
 {
     Segment {
@@ -27,7 +27,7 @@ fn segment(o: &[u8]) -> Segment
 
 // The PDU that a record of a type 0 to 7 is.
 pub fn get(o: &[u8]) -> Pdu
-    requires { ⌜ length (now o) ≡ 12 ⌝ }
+    requires { ⌜ length (now o) ≡ 13 ⌝ }
     ensures { λ r. ⌜ r ≡ apduAt (now (o .entry)) ⌝ }
 {
     let kind = o[0];
@@ -41,6 +41,7 @@ pub fn get(o: &[u8]) -> Pdu
             size: o[6],
             invoke,
             choice,
+            accepts: o[12],
         });
     }
     if kind == 1 {
@@ -80,7 +81,7 @@ pub fn get(o: &[u8]) -> Pdu
     })
 }
 
-fn octets_of(p: Pdu) -> [u8; 12]
+fn octets_of(p: Pdu) -> [u8; 13]
     ensures { λ r. ⌜ r ≡ apduRecord p ⌝ }
 {
     match p {
@@ -99,10 +100,11 @@ fn octets_of(p: Pdu) -> [u8; 12]
                 g.window,
                 q.choice,
                 0,
+                q.accepts,
             ]
         }
-        Pdu::Unconfirmed(q) => [1, 0, 0, 0, 0, 0, 0, 0, 0, 0, q.choice, 0],
-        Pdu::SimpleAck(q) => [2, 0, 0, 0, 0, 0, 0, q.invoke, 0, 0, q.choice, 0],
+        Pdu::Unconfirmed(q) => [1, 0, 0, 0, 0, 0, 0, 0, 0, 0, q.choice, 0, 0],
+        Pdu::SimpleAck(q) => [2, 0, 0, 0, 0, 0, 0, q.invoke, 0, 0, q.choice, 0, 0],
         Pdu::ComplexAck(q) => {
             let g = q.segment;
             [
@@ -117,6 +119,7 @@ fn octets_of(p: Pdu) -> [u8; 12]
                 g.number,
                 g.window,
                 q.choice,
+                0,
                 0,
             ]
         }
@@ -133,16 +136,31 @@ fn octets_of(p: Pdu) -> [u8; 12]
             q.window,
             0,
             0,
+            0,
         ],
-        Pdu::Error(q) => [5, 0, 0, 0, 0, 0, 0, q.invoke, 0, 0, q.choice, 0],
-        Pdu::Reject(q) => [6, 0, 0, 0, 0, 0, 0, q.invoke, 0, 0, 0, q.reason],
-        Pdu::Abort(q) => [7, 0, 0, 0, 0, q.srv as u8, 0, q.invoke, 0, 0, 0, q.reason],
+        Pdu::Error(q) => [5, 0, 0, 0, 0, 0, 0, q.invoke, 0, 0, q.choice, 0, 0],
+        Pdu::Reject(q) => [6, 0, 0, 0, 0, 0, 0, q.invoke, 0, 0, 0, q.reason, 0],
+        Pdu::Abort(q) => [
+            7,
+            0,
+            0,
+            0,
+            0,
+            q.srv as u8,
+            0,
+            q.invoke,
+            0,
+            0,
+            0,
+            q.reason,
+            0,
+        ],
     }
 }
 
 // The record of a PDU's header.
 pub fn put(p: Pdu, out: &mut [u8])
-    requires { ⌜ length (now out) ≡ 12 ⌝ }
+    requires { ⌜ length (now out) ≡ 13 ⌝ }
     ensures { λ _. ⌜ now (out .exit) ≡ apduRecord p ⌝ }
 {
     let r = octets_of(p);

@@ -7,8 +7,9 @@ use listening::wish;
 fn usage() {
     io::write_all(
         libc::STDERR_FILENO,
-        b"usage: replay FILE    a line for each report, behind the number of the record that caused it\nFILE holds records of four octets: kind (0 octet, 1 silence, 2 forget), value, two zeros.\n",
+        b"usage: replay [--later] FILE    a line for each report, behind the number of the record that caused it\nFILE holds records of four octets: kind (0 octet, 1 silence, 2 forget), value, two zeros.\n",
     );
+    wish::later();
 }
 
 fn main() {
@@ -22,5 +23,5 @@ fn main() {
         return;
     }
     let book = words::book();
-    tape::replay(&book, fd);
+    tape::replay(&book, w.edition(), fd);
 }

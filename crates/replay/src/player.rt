@@ -1,4 +1,5 @@
 // The replay between two calls, over the lent frame store and message area, and what is told of a call.
+use apdu::Edition;
 use frames::Link;
 use frames::Receiver;
 use listening::output;
@@ -7,10 +8,11 @@ use playback::lent;
 use rebuild::Slots;
 use words::fill;
 
-// `records`: eaten so far, from the file's first on; `refused`: the number that ended the replay, 0 before; `at`: the octets gathered for writing;
-// `more`: the last call reported, the rest is offered again; `stopped`: nothing more can be written.
+// `edition`: chosen once, for the whole file; `records`: eaten so far, from the file's first on; `refused`: the number that ended the replay, 0 before;
+// `at`: the octets gathered for writing; `more`: the last call reported, the rest is offered again; `stopped`: nothing more can be written.
 // `open`: the file goes on; `held`: octets of a record of which the others have not come yet.
 pub struct Player {
+    pub edition: Edition,
     pub link: Link,
     pub slots: Slots,
     pub records: u64,
@@ -61,11 +63,12 @@ impl Player {
     }
 }
 
-pub fn fresh() -> Player {
+pub fn fresh(edition: Edition) -> Player {
     let r = Receiver::FRESH;
     let link = r.link;
     let slots = Slots::fresh();
     Player {
+        edition,
         link,
         slots,
         records: 0,
@@ -86,12 +89,14 @@ fn eat(
     report: &mut [u8; 16],
     area: &mut [u8; 65536],
 ) -> Player {
+    let edition = p.edition;
     let link = p.link;
     let slots = p.slots;
-    let w = lent::replay(link, slots, store, rest, report, area);
+    let w = lent::replay(edition, link, slots, store, rest, report, area);
     let link = w.link;
     let slots = w.slots;
     Player {
+        edition,
         link,
         slots,
         records: std::num::wrapping_add_u64(p.records, w.eaten as u64),

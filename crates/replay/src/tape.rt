@@ -2,6 +2,7 @@
 // its end is no silence.
 use crate::player;
 use crate::player::Player;
+use apdu::Edition;
 use listening::output;
 use words::fill;
 use words::one;
@@ -90,6 +91,7 @@ fn some(
 // All of the file: the loop counts its turns down from a number that no run uses up.
 fn all(
     book: &[u8],
+    edition: Edition,
     fd: i32,
     buf: &mut [u8; 65536],
     store: &mut [u8; 501],
@@ -97,7 +99,7 @@ fn all(
     items: &mut [u8; 24576],
     out: &mut [u8; 131072],
 ) -> Player {
-    let mut p = player::fresh();
+    let mut p = player::fresh(edition);
     let mut turns = u64::MAX;
     while turns > 0 && p.open {
         p = some(book, p, fd, buf, store, area, items, out);
@@ -137,8 +139,8 @@ fn end(book: &[u8], p: Player, buf: &[u8; 65536], out: &mut [u8; 131072]) {
     }
 }
 
-// Replays an open file. What was told of a piece is written out with it.
-pub fn replay(book: &[u8], fd: i32) {
+// Replays an open file by an edition. What was told of a piece is written out with it.
+pub fn replay(book: &[u8], edition: Edition, fd: i32) {
     let mut buf = io::large_buffer();
     let mut store = [0u8; 501];
     let mut area = io::large_buffer();
@@ -146,6 +148,7 @@ pub fn replay(book: &[u8], fd: i32) {
     let mut out = [0u8; 131072];
     let p = all(
         book,
+        edition,
         fd,
         &mut buf,
         &mut store,

@@ -10,13 +10,16 @@ use borrow.Author.Tests.{eq-eqb, ne-eqb, eqb-true}
 use Rattle.octets.specs.Choice.{pick-so, by-test}
 use Rattle.octets.specs.Reading.{Octets}
 use Rattle.octets.specs.Exact.{Exactly}
+use Rattle.apdu.specs.declared.Edition.{Edition}
+use Rattle.apdu.specs.declared.Edition.the-variants.{First}
 use Rattle.frames.specs.declared.Link.{Link}
 use Rattle.rebuild.specs.declared.Slots.{Slots}
 use Rattle.collector.specs.declared.Collector.{Collector}
 use Rattle.collector.specs.Calls.{freshCollector}
 use Rattle.state.specs.declared.Lifted.{Lifted}
 use Rattle.state.specs.Link.{linkOf}
-use Rattle.state.specs.Layout.{stateSize, linkPart, storePart, stateOctets, Fits}
+use Rattle.state.specs.Edition.{editionOf}
+use Rattle.state.specs.Layout.{stateSize, linkPart, storePart, editionAt, stateOctets, Fits}
 use Rattle.state.specs.Calls.{stateGood, stateAt, Loaded, loaded, loadOf, Loads, liftedAs, liftOf}
 use Rattle.state.proofs.Whole.{Shaped, fits-shaped, state-size, state-back, state-fits, state-stands}
 
@@ -34,7 +37,7 @@ pub loads-back : (c : Collector) → Fits c → Loads (stateOctets c) c
 loads-back c f = shaped-loads c (fits-shaped f)
 
 -- what was accepted: octets that are a state's
-refusing : (n : ℕ) (c : Collector) → (n ≡ 0 → ⊥) → loaded n freshCollector ≡ loaded 0 c → ⊥
+refusing : (n : ℕ) (c : Collector) → (n ≡ 0 → ⊥) → loaded n (freshCollector First) ≡ loaded 0 c → ⊥
 refusing n c h e = h (ap (λ (l : Loaded). l .refused) e)
 
 pub loads-only : (o : List ℕ) (c : Collector) → Octets o → Loads o c → Fits c × (o ≡ stateOctets c)
@@ -69,18 +72,19 @@ accepted-size o e =
     (λ d. let z : _≡_ {A = ℕ} 60 0 = rw d at e in absurd (omega arith))
 
 -- ---- lifting, by the tests that are made: the area's size, and whether its octets are a state's (g)
-pub lifts-sixty : (o : List ℕ) (r : Lifted) → (length o ≡ stateSize → ⊥) → r ≡ liftedAs (loaded 60 freshCollector) → r ≡ liftOf o
+pub lifts-sixty : (o : List ℕ) (r : Lifted) → (length o ≡ stateSize → ⊥) → r ≡ liftedAs (loaded 60 (freshCollector First)) → r ≡ liftOf o
 unfolding liftOf loadOf
 lifts-sixty o r n e = rw (ne-eqb (length o) stateSize n) e
 
 module _ (o : List ℕ) (size : length o ≡ stateSize) (g : Bool) (judged : g ≡ stateGood o) where
-  pub lifts-bad : (r : Lifted) → g ≡ false → r ≡ liftedAs (loaded 59 freshCollector) → r ≡ liftOf o
+  pub lifts-bad : (r : Lifted) → g ≡ false → r ≡ liftedAs (loaded 59 (freshCollector First)) → r ≡ liftOf o
   unfolding liftOf loadOf
   lifts-bad r f e = rw (eq-eqb (length o) stateSize size, ← judged, f) e
 
-  pub lifts-good : (l : Link) (t : Slots) → g ≡ true → l ≡ linkOf (linkPart o) → t ≡ stateAt o .slots → record { refused = 0; link = l; slots = t } ≡ liftOf o
+  pub lifts-good : (x : Edition) (l : Link) (t : Slots) → g ≡ true → x ≡ editionOf (editionAt o) → l ≡ linkOf (linkPart o) → t ≡ stateAt o .slots
+      → record { refused = 0; edition = x; link = l; slots = t } ≡ liftOf o
   unfolding liftOf loadOf stateAt
-  lifts-good l t h e d = rw (eq-eqb (length o) stateSize size, ← judged, h, e, d)
+  lifts-good x l t h y e d = rw (eq-eqb (length o) stateSize size, ← judged, h, y, e, d)
 
 -- for `search (needs, lifts)`
 pub ruleset lifts = (lifts-sixty, lifts-bad, lifts-good)

@@ -1,6 +1,7 @@
 pub mod Parts
 pub mod Link
 pub mod Slot
+pub mod Edition
 pub mod Slots
 pub mod Whole
 pub mod Exact

@@ -8,6 +8,7 @@ use lib.Seq.{take-at, drop-at}
 use borrow.Author.Tests.{eq-eqb}
 use Rattle.octets.specs.Reading.{Octets}
 use Rattle.octets.specs.Splice.{splice}
+use Rattle.apdu.specs.declared.Edition.{Edition}
 use Rattle.frames.specs.declared.Link.{Link}
 use Rattle.rebuild.specs.declared.Slots.{Slots}
 use Rattle.collector.specs.Lent.{over}
@@ -52,12 +53,12 @@ laid-over a b c b′ at h k =
 laid-last : (a b b′ : List ℕ) (at : ℕ) → length a ≡ at → length b′ ≡ length b → splice (a ++ b) at b′ ≡ a ++ b′
 laid-last a b b′ at h k = simp append-nil at (laid-over a b [] b′ at h k)
 
-module _ {o : List ℕ} {l : Link} {t : Slots} {s : List ℕ} (h : Holds o (over l t s)) where
+module _ {o : List ℕ} {e : Edition} {l : Link} {t : Slots} {s : List ℕ} (h : Holds o (over e l t s)) where
   abbrev link : List ℕ
   link = linkOctets l
 
   abbrev behind : List ℕ
-  behind = behindOctets t
+  behind = behindOctets e t
 
   parts : o ≡ link ++ (s ++ behind)
   unfolding stateOctets
@@ -70,7 +71,7 @@ module _ {o : List ℕ} {l : Link} {t : Slots} {s : List ℕ} (h : Holds o (over
   lays y = rw (eq-eqb (length o) stateSize (holds-size h)) at (y .after)
 
   -- the lent store comes back
-  pub store-over : (s′ : List ℕ) → length s′ ≡ storeSize → Holds (take storePlace o ++ (s′ ++ drop storeSize (drop storePlace o))) (over l t s′)
+  pub store-over : (s′ : List ℕ) → length s′ ≡ storeSize → Holds (take storePlace o ++ (s′ ++ drop storeSize (drop storePlace o))) (over e l t s′)
   unfolding stateOctets
   store-over s′ n =
       let a : take storePlace o ≡ link = rw parts (take-at link (s ++ behind) storePlace link-long) in
@@ -79,20 +80,20 @@ module _ {o : List ℕ} {l : Link} {t : Slots} {s : List ℕ} (h : Holds o (over
       record { shaped = record { head = h .shaped .head; store = n; four = h .shaped .four }; octets = rw (a, d) }
 
   -- a link, and slots, laid over those that are there
-  pub link-over : {l′ : Link} {r : ℕ} {o′ : List ℕ} → Lays 0 linkSize (linkOctets l′) o r o′ → Holds o′ (over l′ t s)
+  pub link-over : {l′ : Link} {r : ℕ} {o′ : List ℕ} → Lays 0 linkSize (linkOctets l′) o r o′ → Holds o′ (over e l′ t s)
   unfolding stateOctets
   link-over {l′} y =
-      let e = laid-over [] link (s ++ behind) (linkOctets l′) 0 (omega arith) (y .long ∙ sym link-long) in
-      record { shaped = record { head = link-shaped l′ (y .long); store = h .shaped .store; four = h .shaped .four }; octets = lays y ∙ rw parts e }
+      let k = laid-over [] link (s ++ behind) (linkOctets l′) 0 (omega arith) (y .long ∙ sym link-long) in
+      record { shaped = record { head = link-shaped l′ (y .long); store = h .shaped .store; four = h .shaped .four }; octets = lays y ∙ rw parts k }
 
-  pub slots-over : {t′ : Slots} {r : ℕ} {o′ : List ℕ} → Lays slotsPlace slotsSize (slotsOctets (t′ .slots)) o r o′ → Holds o′ (over l t′ s)
+  pub slots-over : {t′ : Slots} {r : ℕ} {o′ : List ℕ} → Lays slotsPlace slotsSize (slotsOctets (t′ .slots)) o r o′ → Holds o′ (over e l t′ s)
   slots-over {t′} {r} {o′} y =
       let q = slotsOctets (t .slots) in
       let q′ = slotsOctets (t′ .slots) in
-      let w : o ≡ front l s ++ q = h .octets ∙ sym (in-front (over l t s)) in
+      let w : o ≡ front e l s ++ q = h .octets ∙ sym (in-front (over e l t s)) in
       let n : length q′ ≡ length q = y .long ∙ sym (slots-size (t .slots) (h .shaped .four)) in
-      let e : splice (front l s ++ q) slotsPlace q′ ≡ front l s ++ q′ = laid-last (front l s) q q′ slotsPlace (front-long (over l t s) (h .shaped)) n in
+      let k : splice (front e l s ++ q) slotsPlace q′ ≡ front e l s ++ q′ = laid-last (front e l s) q q′ slotsPlace (front-long (over e l t s) (h .shaped)) n in
       record {
         shaped = record { head = h .shaped .head; store = h .shaped .store; four = slots-shaped (t′ .slots) (y .long) };
-        octets = lays y ∙ rw w (e ∙ in-front (over l t′ s));
+        octets = lays y ∙ rw w (k ∙ in-front (over e l t′ s));
       }

@@ -4,7 +4,7 @@ use native.Mathlib.Omega.{arith}
 use mathlib.Core.Path.{_≡_, refl}
 use mathlib.Core.Bool.{Bool, true, false}
 use mathlib.Core.List.{List}
-use lib.Dec.{eqb, leb}
+use lib.Dec.{ltb, leb}
 use lib.ListN.{length}
 use borrow.Author.Tests.{leb-true}
 use Rattle.octets.specs.Reading.{oct, Octets}
@@ -18,7 +18,7 @@ pub slot-size : (x : Slot) → length (slotOctets x) ≡ slotSize
 unfolding slotOctets
 slot-size x = refl
 
-flag-back : (b : Bool) → (eqb (flag b) 1 ≡ b) × (leb (flag b) 1 ≡ true)
+flag-back : (b : Bool) → (ltb 0 (flag b) ≡ b) × (leb (flag b) 1 ≡ true)
 flag-back true = (refl, refl)
 flag-back false = (refl, refl)
 
@@ -26,7 +26,7 @@ pub slot-back : (x : Slot) → (slotOf (slotOctets x) ≡ x) × (slotGood (slotO
 unfolding slotOctets slotOf slotGood
 slot-back x = (rw (two-back (x .held), flag-back (x .used) .0), flag-back (x .used) .1)
 
-flag-stands : (b : ℕ) → leb b 1 ≡ true → flag (eqb b 1) ≡ b
+flag-stands : (b : ℕ) → leb b 1 ≡ true → flag (ltb 0 b) ≡ b
 flag-stands zero h = refl
 flag-stands (suc zero) h = refl
 flag-stands (suc (suc b)) h = let z = leb-true (suc (suc b)) 1 h in absurd (omega arith)

@@ -1,4 +1,4 @@
--- The state that a lent area is, its link and slots lifted and laid there, and a whole state saved there. "60, then 59": an area of another size is
+-- The state that a lent area is, its edition, link and slots lifted, link and slots laid there, and a whole state saved there. "60, then 59": an area of another size is
 -- 60, octets that are no state's are 59.
 use Prim.Native.Nat.{ℕ, zero, suc}
 use mathlib.Core.Path.{_≡_}
@@ -8,6 +8,7 @@ use lib.Dec.{eqb}
 use lib.ListN.{length}
 use Rattle.octets.specs.Choice.{pick, both}
 use Rattle.octets.specs.Splice.{splice}
+use Rattle.apdu.specs.declared.Edition.the-variants.{First}
 use Rattle.frames.specs.declared.Link.{Link}
 use Rattle.rebuild.specs.declared.Slot.{Slot}
 use Rattle.rebuild.specs.declared.Slots.{Slots}
@@ -15,8 +16,9 @@ use Rattle.collector.specs.declared.Collector.{Collector}
 use Rattle.collector.specs.Calls.{freshCollector, slotCount}
 use Rattle.state.specs.declared.Lifted.{Lifted}
 use Rattle.state.specs.Link.{linkSize, linkOctets, linkGood, linkOf}
+use Rattle.state.specs.Edition.{editionGood, editionOf}
 use Rattle.state.specs.Slot.{slotGood, slotOf}
-use Rattle.state.specs.Layout.{slotsPlace, slotsSize, stateSize, linkPart, storePart, slotPart, slotsOctets, stateOctets}
+use Rattle.state.specs.Layout.{slotsPlace, slotsSize, stateSize, linkPart, storePart, editionAt, slotPart, slotsOctets, stateOctets}
 
 -- ---- which octets are no state's: those of a part that is none
 unfoldable pub goodAt : List ℕ → ℕ → Bool
@@ -28,7 +30,7 @@ slotsGood o i zero = true
 slotsGood o i (suc n) = both (goodAt o i) (slotsGood o (suc i) n)
 
 unfoldable pub stateGood : List ℕ → Bool
-stateGood o = both (linkGood (linkPart o)) (slotsGood o 0 slotCount)
+stateGood o = both (linkGood (linkPart o)) (both (editionGood (editionAt o)) (slotsGood o 0 slotCount))
 
 -- ---- the state that the octets are
 unfoldable pub slotAt : List ℕ → ℕ → Slot
@@ -42,6 +44,7 @@ slotsAt o i (suc n) = slotAt o i ∷ slotsAt o (suc i) n
 unfoldable pub stateAt : List ℕ → Collector
 stateAt o =
     record {
+      edition = editionOf (editionAt o);
       receiver = record { link = linkOf (linkPart o); store = storePart o };
       slots = record { slots = slotsAt o 0 slotCount };
     }
@@ -51,20 +54,20 @@ pub record Loaded : Type 0 where
   pub refused : ℕ
   pub state : Collector
 
--- with a refusal it is the fresh state
+-- with a refusal it is the fresh state of 1995
 abbrev pub loaded : ℕ → Collector → Loaded
 loaded n c = record { refused = n; state = c }
 
 unfoldable pub loadOf : List ℕ → Loaded
-loadOf o = pick (eqb (length o) stateSize) (pick (stateGood o) (loaded 0 (stateAt o)) (loaded 59 freshCollector)) (loaded 60 freshCollector)
+loadOf o = pick (eqb (length o) stateSize) (pick (stateGood o) (loaded 0 (stateAt o)) (loaded 59 (freshCollector First))) (loaded 60 (freshCollector First))
 
 -- the octets are accepted as this state
 abbrev pub Loads : List ℕ → Collector → Type 0
 Loads o c = loadOf o ≡ loaded 0 c
 
--- ---- lifting: link and slots of what the area is loaded as; its frame store stays in its place
+-- ---- lifting: edition, link and slots of what the area is loaded as; its frame store stays in its place
 abbrev pub liftedAs : Loaded → Lifted
-liftedAs l = record { refused = l .refused; link = l .state .receiver .link; slots = l .state .slots }
+liftedAs l = record { refused = l .refused; edition = l .state .edition; link = l .state .receiver .link; slots = l .state .slots }
 
 unfoldable pub liftOf : List ℕ → Lifted
 liftOf o = liftedAs (loadOf o)

@@ -1,19 +1,22 @@
--- The octets that a state is, and where each part stands. A state area has 546:
+-- The octets that a state is, and where each part stands. A state area has 547:
 --     0 - 8    the link
 --     9 - 509  the frame store
---   510 - 545  the four slots, of 9 octets each
--- The numbers follow from the sizes below; a link's own octets are said in Link and a slot's in Slot.
+--   510        the edition
+--   511 - 546  the four slots, of 9 octets each
+-- The numbers follow from the sizes below; a link's own octets are said in Link, the edition's in Edition and a slot's in Slot.
 use Prim.Native.Nat.{ℕ, _+_, _*_, _<_}
 use mathlib.Core.Path.{_≡_}
 use mathlib.Core.List.{List, [], _∷_, _++_}
 use lib.ListN.{length, take, drop}
-use Rattle.octets.specs.Reading.{Octets}
+use Rattle.octets.specs.Reading.{oct, Octets}
+use Rattle.apdu.specs.declared.Edition.{Edition}
 use Rattle.frames.specs.Step as Frames
 use Rattle.rebuild.specs.declared.Slot.{Slot}
 use Rattle.rebuild.specs.declared.Slots.{Slots}
 use Rattle.collector.specs.Calls.{slotCount}
 use Rattle.collector.specs.declared.Collector.{Collector}
 use Rattle.state.specs.Link.{linkSize, linkOctets, PhaseFits}
+use Rattle.state.specs.Edition.{editionSize, editionOctet}
 use Rattle.state.specs.Slot.{slotSize, slotOctets, SlotFits}
 
 -- ---- the places
@@ -24,8 +27,11 @@ storePlace = linkSize
 abbrev pub storeSize : ℕ
 storeSize = Frames.most
 
+abbrev pub editionPlace : ℕ
+editionPlace = storePlace + storeSize
+
 abbrev pub slotsPlace : ℕ
-slotsPlace = storePlace + storeSize
+slotsPlace = editionPlace + editionSize
 
 -- slot i, counted from 0
 abbrev pub slotPlace : ℕ → ℕ
@@ -44,6 +50,9 @@ linkPart o = take linkSize o
 abbrev pub storePart : List ℕ → List ℕ
 storePart o = take storeSize (drop storePlace o)
 
+abbrev pub editionAt : List ℕ → ℕ
+editionAt o = oct o editionPlace
+
 abbrev pub slotPart : List ℕ → ℕ → List ℕ
 slotPart o i = take slotSize (drop (slotPlace i) o)
 
@@ -53,11 +62,11 @@ slotsOctets [] = []
 slotsOctets (x ∷ xs) = slotOctets x ++ slotsOctets xs
 
 -- link, store, and what stands behind the store
-abbrev pub behindOctets : Slots → List ℕ
-behindOctets t = slotsOctets (t .slots)
+abbrev pub behindOctets : Edition → Slots → List ℕ
+behindOctets e t = editionOctet e ∷ slotsOctets (t .slots)
 
 unfoldable pub stateOctets : Collector → List ℕ
-stateOctets c = linkOctets (c .receiver .link) ++ (c .receiver .store ++ behindOctets (c .slots))
+stateOctets c = linkOctets (c .receiver .link) ++ (c .receiver .store ++ behindOctets (c .edition) (c .slots))
 
 -- ---- the values that a state's types hold: every octet an octet, every array of its size
 abbrev pub SlotsFit : List Slot → Type 0

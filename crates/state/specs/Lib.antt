@@ -1,4 +1,5 @@
 pub mod Link
 pub mod Slot
+pub mod Edition
 pub mod Layout
 pub mod Calls

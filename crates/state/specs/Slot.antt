@@ -3,9 +3,9 @@
 use Prim.Native.Nat.{ℕ, _+_, _*_, _/_, _%_, _<_}
 use mathlib.Core.Bool.{Bool}
 use mathlib.Core.List.{List, [], _∷_}
-use lib.Dec.{eqb, leb}
+use lib.Dec.{leb}
 use Rattle.octets.specs.Reading.{oct}
-use Rattle.records.specs.Flag.{flag}
+use Rattle.records.specs.Flag.{flag, flagAt}
 use Rattle.rebuild.specs.declared.Slot.{Slot}
 
 abbrev pub slotSize : ℕ
@@ -33,7 +33,7 @@ slotGood s = leb (oct s 0) 1
 unfoldable pub slotOf : List ℕ → Slot
 slotOf s =
     record {
-      used = eqb (oct s 0) 1;
+      used = flagAt s 0;
       key = record { source = oct s 1; destination = oct s 2; kind = oct s 3; invoke = oct s 4 };
       next = oct s 5;
       choice = oct s 6;

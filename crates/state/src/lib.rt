@@ -1,7 +1,8 @@
-// A state as octets of a lent area: its link and slots lifted from there and laid back, its frame store left in place; a whole state saved there.
+// A state as octets of a lent area: its edition, link and slots lifted from there, link and slots laid back, its frame store left in place; a whole state saved there.
 mod loading;
 mod saving;
 
+use apdu::Edition;
 use collector::Collector;
 use frames::Link;
 use rebuild::Slots;
@@ -9,17 +10,20 @@ ghost use mathlib.Core.Path.{_≡_};
 ghost use Prim.Native.Nat.{_<_};
 ghost use Rattle.collector.specs.Calls.{slotCount};
 ghost use Rattle.state.specs.Link.{linkSize, linkOctets};
+ghost use Rattle.state.specs.Edition.{editionOf};
 ghost use Rattle.state.specs.Layout.{slotsPlace, slotPlace, slotsSize, slotsOctets};
 ghost use Rattle.state.specs.Calls.{liftOf, Lays, LaysBoth, Saves};
 
-// The octets of a link, in front; where the frame store stands and ends; where the slots stand, and the octets of each; the octets of a state.
+// The octets of a link, in front; where the frame store stands and ends; the edition's place; where the slots stand, and the octets of each; the octets of a state.
 pub const LINK: usize = 9;
 
 pub const STORE: usize = LINK;
 
 pub const STORE_END: usize = STORE + 501;
 
-pub const SLOTS: usize = STORE_END;
+pub const EDITION: usize = STORE_END;
+
+pub const SLOTS: usize = EDITION + 1;
 
 pub const SLOT: usize = 9;
 
@@ -33,14 +37,25 @@ fn slot_place(i: usize) -> usize
     SLOTS + SLOT * i
 }
 
-// What lifting answers: 60, 59 or 0 with link and slots; the store stays in its place in the area.
+// The edition that an octet says: 0 is 1995, any other the later one.
+pub fn edition_of(octet: u8) -> Edition
+    ensures { λ r. ⌜ r ≡ editionOf octet ⌝ }
+{
+    if octet == 0 {
+        return Edition::First;
+    }
+    Edition::Later
+}
+
+// What lifting answers: 60, 59 or 0 with edition, link and slots; the store stays in its place in the area.
 pub struct Lifted {
     pub refused: u8,
+    pub edition: Edition,
     pub link: Link,
     pub slots: Slots,
 }
 
-// The link and the slots that an area's octets hold.
+// The edition, the link and the slots that an area's octets hold.
 pub fn lift(area: &[u8]) -> Lifted
     ensures { λ r. ⌜ r ≡ liftOf (now (area .entry)) ⌝ }
 {
@@ -48,10 +63,12 @@ pub fn lift(area: &[u8]) -> Lifted
         return loading::refused(60);
     }
     if loading::state_good(area) {
+        let edition = edition_of(area[EDITION]);
         let link = loading::link_of(&area[0..LINK]);
         let slots = loading::slots_at(area);
         return Lifted {
             refused: 0,
+            edition,
             link,
             slots,
         };

@@ -1,8 +1,10 @@
 // The link and the slots that octets hold, and whether they are a state.
+use crate::EDITION;
 use crate::LINK;
 use crate::Lifted;
 use crate::SLOT;
 use crate::slot_place;
+use apdu::Edition;
 use frames::Link;
 use frames::Phase;
 use rebuild::Key;
@@ -11,15 +13,17 @@ use rebuild::Slots;
 ghost use mathlib.Core.Path.{_≡_};
 ghost use Prim.Native.Nat.{_<_};
 ghost use lib.ListN.{length, take, drop};
+ghost use Rattle.apdu.specs.declared.Edition.the-variants.{First};
 ghost use Rattle.collector.specs.Calls.{freshCollector, slotCount};
 ghost use Rattle.state.specs.Link.{linkSize, phaseGood, linkGood, phaseAt, linkOf};
+ghost use Rattle.state.specs.Edition.{editionGood};
 ghost use Rattle.state.specs.Slot.{slotSize, slotGood, slotOf};
 ghost use Rattle.state.specs.Layout.{stateSize};
 ghost use Rattle.state.specs.Calls.{goodAt, slotsGood, stateGood, slotAt, stateAt, loaded, liftedAs};
 
-// A refusal, beside the fresh link and slots.
+// A refusal, beside the fresh link and slots of 1995.
 pub fn refused(n: u8) -> Lifted
-    ensures { λ r. ⌜ r ≡ liftedAs (loaded n freshCollector) ⌝ }
+    ensures { λ r. ⌜ r ≡ liftedAs (loaded n (freshCollector First)) ⌝ }
 {
     let link = Link {
         phase: Phase::Hunting,
@@ -28,6 +32,7 @@ pub fn refused(n: u8) -> Lifted
     };
     Lifted {
         refused: n,
+        edition: Edition::First,
         link,
         slots: Slots::FREE,
     }
@@ -55,6 +60,13 @@ fn link_good(s: &[u8]) -> bool
     ensures { λ r. ⌜ r ≡ linkGood (now (s .entry)) ⌝ }
 {
     phase_good(s[0], s[1], s[2])
+}
+
+// Whether an octet is an edition's.
+fn edition_good(octet: u8) -> bool
+    ensures { λ r. ⌜ r ≡ editionGood octet ⌝ }
+{
+    octet <= 1
 }
 
 // Whether octets are a slot's.
@@ -98,7 +110,10 @@ pub fn state_good(o: &[u8]) -> bool
     ensures { λ r. ⌜ r ≡ stateGood (now (o .entry)) ⌝ }
 {
     if link_good(&o[0..LINK]) {
-        return slots_good(o);
+        if edition_good(o[EDITION]) {
+            return slots_good(o);
+        }
+        return false;
     }
     false
 }
@@ -152,7 +167,7 @@ fn slot_of(s: &[u8]) -> Slot
         invoke: s[4],
     };
     Slot {
-        used: s[0] == 1,
+        used: 0 < s[0],
         key: k,
         next: s[5],
         choice: s[6],

@@ -1,7 +1,9 @@
 // The octets of a state, laid into an area.
+use crate::EDITION;
 use crate::SLOT;
 use crate::STORE;
 use crate::slot_place;
+use apdu::Edition;
 use collector::Collector;
 use frames::Link;
 use frames::Phase;
@@ -13,6 +15,7 @@ ghost use lib.ListN.{length};
 ghost use Rattle.octets.specs.Splice.{splice};
 ghost use Rattle.collector.specs.Calls.{slotCount};
 ghost use Rattle.state.specs.Link.{phaseOctets, linkOctets};
+ghost use Rattle.state.specs.Edition.{editionOctet};
 ghost use Rattle.state.specs.Slot.{slotOctets};
 ghost use Rattle.state.specs.Layout.{stateSize, slotsPlace, slotPlace, slotsOctets, stateOctets};
 
@@ -25,6 +28,15 @@ fn phase_octets(p: Phase) -> [u8; 3]
         Phase::Preamble => [1, 0, 0],
         Phase::Header(got) => [2, 0, got],
         Phase::Data(got) => [3, (got / 256) as u8, (got % 256) as u8],
+    }
+}
+
+fn edition_octet(edition: Edition) -> u8
+    ensures { λ r. ⌜ r ≡ editionOctet edition ⌝ }
+{
+    match edition {
+        Edition::First => 0,
+        Edition::Later => 1,
     }
 }
 
@@ -86,7 +98,10 @@ pub fn put_state(c: Collector, area: &mut [u8])
     let l = r.link;
     let s = r.store;
     let t = c.slots;
+    let g = c.edition;
+    let e = edition_octet(g);
     put_link(l, area);
     octets::copy(&s, area, STORE);
+    octets::put(area, EDITION, e);
     put_slots(t, area);
 }

@@ -11,6 +11,8 @@ lift-spec =
     (λ c. search (needs, lifts))
     (λ c κs. search needs)
     (λ c. search needs)
+    (λ c κs. search needs)
+    (λ c. search needs)
     (λ c. search needs)
     (λ c. search needs)
     (λ c κs. search needs)

@@ -7,4 +7,4 @@ forget-spec =
     tie.close
     (tie.spec
     (λ c κs. search needs)
-    (λ c. c .before .forget .ensures (c .before .before .before .before .before .args .self .receiver .store)))
+    (λ c. c .before .forget .ensures (c .before .before .before .before .before .args .self .edition) (c .before .before .before .before .before .args .self .receiver .store)))

@@ -8,4 +8,4 @@ silence-spec =
     (tie.spec
     (λ c κs. search needs)
     (λ c. search needs)
-    (λ c. c .before .before .before .silence .ensures (c .before .before .before .before .before .before .before .before .before .args .self .receiver .store)))
+    (λ c. c .before .before .before .silence .ensures (c .before .before .before .before .before .before .before .before .before .args .self .edition) (c .before .before .before .before .before .before .before .before .before .args .self .receiver .store)))

@@ -11,8 +11,8 @@ forget-spec =
     tie.close
     (tie.spec
     (λ c κs. search needs)
-    (λ c s. let a = c .before .before .args in forgets-slots (over (a .link) (a .slots) s) (a .s) (sym (c .before .sound .ensures) ∙ not-true _ (c .if1 .taken)))
+    (λ c e s. let a = c .before .before .args in forgets-slots (over e (a .link) (a .slots) s) (a .s) (sym (c .before .sound .ensures) ∙ not-true _ (c .if1 .taken)))
     (λ c κs. search needs)
-    (λ c s. let a = c .before .before .before .before .args in forgets-left (over (a .link) (a .slots) s) (a .s) (sym (c .before .before .before .sound .ensures) ∙ not-false _ (c .before .before .if1 .left)) (sym (c .before .sound2 .ensures) ∙ not-true _ (c .if2 .taken)))
+    (λ c e s. let a = c .before .before .before .before .args in forgets-left (over e (a .link) (a .slots) s) (a .s) (sym (c .before .before .before .sound .ensures) ∙ not-false _ (c .before .before .if1 .left)) (sym (c .before .sound2 .ensures) ∙ not-true _ (c .if2 .taken)))
     (λ c κs. search needs)
-    (λ c s. let a = c .before .before .before .before .before .before .args in forgets-on (over (a .link) (a .slots) s) (a .s) (sym (c .before .before .before .before .before .sound .ensures) ∙ not-false _ (c .before .before .before .before .if1 .left)) (sym (c .before .before .before .sound2 .ensures) ∙ not-false _ (c .before .before .if2 .left)) (c .before .forget .ensures)))
+    (λ c e s. let a = c .before .before .before .before .before .before .args in forgets-on (over e (a .link) (a .slots) s) (a .s) (sym (c .before .before .before .before .before .sound .ensures) ∙ not-false _ (c .before .before .before .before .if1 .left)) (sym (c .before .before .before .sound2 .ensures) ∙ not-false _ (c .before .before .if2 .left)) (c .before .forget .ensures)))

@@ -10,6 +10,7 @@ hb-apdu-read-spec =
     (tie.spec
     (λ c. search (needs, fills-to-other))
     (λ c κs. search needs)
+    (λ c κs. search needs)
     (λ c. search needs)
     (λ c κs. search needs)
     (λ c κs. search needs)

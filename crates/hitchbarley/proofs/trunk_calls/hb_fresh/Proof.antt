@@ -9,5 +9,6 @@ hb-fresh-spec =
     (tie.spec
     (λ c κs. search needs)
     (λ c κs. search needs)
+    (λ c κs. search needs)
     (λ c. search needs)
     (λ c. search (needs, saves-fresh)))

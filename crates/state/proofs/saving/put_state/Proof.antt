@@ -13,8 +13,12 @@ put-state-spec =
     tie.close
     (tie.spec
     (λ c κs. search needs)
-    (λ c. search needs)
-    (λ c κs. let h = shaped (c .before .before .before .before .before .before .before .before .before .before .before) in search needs)
     (λ c κs. search needs)
     (λ c. search needs)
-    (λ c. search (needs, state-laid, shaped)))
+    (λ c κs. let h = shaped (c .before .before .before .before .before .before .before .before .before .before .before .before) in search needs)
+    (λ c κs. search needs)
+    (λ c κs. search needs)
+    (λ c. search needs)
+    (λ c.
+    let st = c .before .before .before .before .before .before .before .before .before .before .before .before .before .before .before .before .before .before .before .before .before .before .before in
+    state-laid (st .args .c) (shaped st) _ (st .pre) (c .before .before .before .before .before .before .before .before .before .before .before .before .before .before .before .before .before .edition-octet .ensures) (c .before .before .before .before .before .before .before .before .before .before .before .before .before .before .before .put-link .ensures) (c .before .before .before .before .before .before .before .before .before .before .copy .ensures) (c .before .before .before .before .before .before .put .ensures) (c .before .before .put-slots .ensures)))
