@@ -4,6 +4,7 @@
      bench reports FILE PIECE      a line for each report: the octets and the records eaten so far, the 16 octets, a hash of a completed message;
                                    last a hash of the message area
      bench stack FILE PIECE        the largest stack that a call used, in octets
+     bench empty FILE CALLS RUNS LESS   feeds as `run` does, then makes so many calls with an empty piece, and says nothing
      bench sizes                   the size of the state
      bench stacks                  the stack of each call but hb_feed (the proved library alone)
      bench run FILE PIECE RUNS [LESS]   feeds the first RUNS runs of octets (silences and forget orders end a run), the last LESS octets of the
@@ -183,6 +184,17 @@ static void all(void)
 }
 #endif
 
+/* Calls with nothing to eat, in the state that the recording leaves. */
+static void empty(size_t calls)
+{
+#ifndef REPLAYED
+    int reported;
+    while (calls--) feed(octets, 0, &reported);
+#else
+    (void)calls;
+#endif
+}
+
 /* ---- the stack: painted, used, read back */
 
 static uint8_t stack[STACK] __attribute__((aligned(16)));
@@ -225,7 +237,7 @@ static int begin(int argc, char **argv)
         return 0;
     }
     if (argc < 4) {
-        say("usage: bench [later] reports FILE PIECE | stack FILE PIECE | run FILE PIECE RUNS | sizes\n");
+        say("usage: bench [later] reports FILE PIECE | stack FILE PIECE | run FILE PIECE RUNS | empty FILE CALLS RUNS LESS | sizes\n");
         return 2;
     }
     load(argv[2]);
@@ -233,6 +245,13 @@ static int begin(int argc, char **argv)
     runs = argc < 5 ? (size_t)-1 : number_of(argv[4]);
     less = argc < 6 ? 0 : number_of(argv[5]);
     telling = same(mode, "reports");
+    if (same(mode, "empty")) {
+        size_t calls = piece;
+        piece = MOST;
+        all();
+        empty(calls);
+        return 0;
+    }
     if (same(mode, "stack")) {
         say_number(used_by(all), 10, 1);
         say("\n");

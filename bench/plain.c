@@ -5,8 +5,32 @@ enum { HUNTING, PREAMBLE, HEADER, DATA };
 enum { NOTHING = -1, FRAME = 0 }; /* above 0: damage */
 enum { ROOM = 16384 };
 
-/* ---- check sums, as Annex G works them out: all eight bits of an octet at once, without a table */
+/* ---- check sums: with -DTABLES one look-up an octet, else as Annex G works them out, all eight bits of an octet at once */
 
+#ifdef TABLES
+#define HEADER_MIX(c) ((c) ^ (c) << 1 ^ (c) << 2 ^ (c) << 3 ^ (c) << 4 ^ (c) << 5 ^ (c) << 6 ^ (c) << 7)
+#define HEADER_SUM(c) ((HEADER_MIX(c) & 0xFE) ^ (HEADER_MIX(c) >> 8 & 1))
+#define DATA_SUM(low) ((low) << 8 ^ (low) << 3 ^ (low) << 12 ^ (low) >> 4 ^ ((low) & 0x0F) ^ ((low) & 0x0F) << 7)
+#define HEADER_ENTRY(c) (uint8_t)HEADER_SUM(c)
+#define DATA_ENTRY(c) (uint16_t)DATA_SUM(c)
+#define FOUR(entry, c) entry(c), entry((c) + 1), entry((c) + 2), entry((c) + 3)
+#define SIXTEEN(entry, c) FOUR(entry, c), FOUR(entry, (c) + 4), FOUR(entry, (c) + 8), FOUR(entry, (c) + 12)
+#define SIXTY_FOUR(entry, c) SIXTEEN(entry, c), SIXTEEN(entry, (c) + 16), SIXTEEN(entry, (c) + 32), SIXTEEN(entry, (c) + 48)
+#define EVERY(entry) SIXTY_FOUR(entry, 0u), SIXTY_FOUR(entry, 64u), SIXTY_FOUR(entry, 128u), SIXTY_FOUR(entry, 192u)
+
+static const uint8_t header_sums[256] = {EVERY(HEADER_ENTRY)};
+static const uint16_t data_sums[256] = {EVERY(DATA_ENTRY)};
+
+static uint8_t header_step(uint8_t sum, uint8_t b)
+{
+    return header_sums[sum ^ b];
+}
+
+static uint16_t data_step(uint16_t sum, uint8_t b)
+{
+    return (uint16_t)(sum >> 8 ^ data_sums[(sum ^ b) & 0xFF]);
+}
+#else
 static uint8_t header_step(uint8_t sum, uint8_t b)
 {
     unsigned c = sum ^ b;
@@ -19,6 +43,7 @@ static uint16_t data_step(uint16_t sum, uint8_t b)
     unsigned low = (sum & 0xFF) ^ b;
     return (uint16_t)((sum >> 8) ^ (low << 8) ^ (low << 3) ^ (low << 12) ^ (low >> 4) ^ (low & 0x0F) ^ ((low & 0x0F) << 7));
 }
+#endif
 
 /* ---- tag items */
 

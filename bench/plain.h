@@ -1,5 +1,6 @@
 /* A plain C listener for the comparison: the same frames, the same reports, the same message area as the proved one,
-   written the usual way. The state stands behind a pointer and is stepped an octet at a time, with running check sums. */
+   written the usual way. The state stands behind a pointer and is stepped an octet at a time, with running check sums,
+   by tables where it is built with -DTABLES. */
 #ifndef PLAIN_H
 #define PLAIN_H
 #include <stddef.h>

@@ -1,4 +1,5 @@
 pub mod Passed
+pub mod Fed
 pub mod Replayed
 pub mod Answered
 pub mod Headers

@@ -1,9 +1,9 @@
 -- How the calls of a trunk come to what they promise: a refusal before the collector's call, or that call over what the state area holds.
 use Prim.Native.Nat.{ℕ}
-use mathlib.Core.Path.{_≡_, refl, sym, ap, subst, _∙_}
-use mathlib.Core.Bool.{true, false}
-use mathlib.Core.List.{List, [], _++_}
-use lib.ListN.{length, take, drop}
+use mathlib.Core.Path.{_≡_, sym, ap, subst, _∙_}
+use mathlib.Core.Bool.{true}
+use mathlib.Core.List.{List, []}
+use lib.ListN.{length}
 use native.Mathlib.Omega.{arith}
 use borrow.Author.Tests.{eq-eqb, ne-eqb}
 use Rattle.octets.specs.Reading.{Octets}
@@ -25,11 +25,11 @@ use Rattle.collector.specs.declared.lent.Freed.{Freed}
 use Rattle.records.specs.Flag.{flag}
 use Rattle.state.specs.Link.{linkSize, linkOctets}
 use Rattle.state.specs.Edition.{editionOf}
-use Rattle.state.specs.Layout.{storePlace, storeSize, slotsPlace, slotsSize, stateSize, storePart, slotsOctets, stateOctets}
+use Rattle.state.specs.Layout.{slotsPlace, slotsSize, stateSize, storePart, slotsOctets, stateOctets}
 use Rattle.state.specs.Calls.{loadOf, liftOf, Lays, Saves}
 use Rattle.state.specs.declared.Lifted.{Lifted}
 use Rattle.state.proofs.Exact.{accepted-size, accepted-store}
-use Rattle.state.proofs.Places.{Holds, accepted-holds, holds-octets, holds-loads, store-over, link-over, slots-over}
+use Rattle.state.proofs.Places.{Holds, accepted-holds, holds-octets, holds-loads, link-over, slots-over}
 use Rattle.hitchbarley.specs.Trunk.{Left, barred, stateBy, stateOf, passed, bar, inside, feedBar, feedLeft, silenceBar, silenceLeft, forgetNumberOf, forgotten, forgetLeft, Feeds, Stills, Forgets}
 
 -- a state by its parts
@@ -133,17 +133,6 @@ module _ (state report area piece : List ℕ) where
           areaAfter = y′ .areaAfter ∙ area-of q;
           again = λ b. holds-loads h′;
         }
-
-    -- with store and link laid back; slots that have moved are laid too, others are those that were there
-    pub feeds-stayed : Octets state → w .refused ≡ 0 → {f : Ate} {r : ℕ} {s state′ report′ area′ : List ℕ} → Eats (w .edition) (w .link) (w .slots) (storePart state) report area piece f s report′ area′
-        → length s ≡ storeSize → Lays 0 linkSize (linkOctets (f .link)) (take storePlace state ++ (s ++ drop storeSize (drop storePlace state))) r state′ → f .moved ≡ false
-        → Feeds state report area piece (f .refused) (f .eaten) (flag (f .reported)) state′ report′ area′
-    feeds-stayed os z {s = s} y n d g = feeds-on z y (y .kept g) (link-over (store-over (lifted-holds state os e z) s n) d)
-
-    pub feeds-moved : Octets state → w .refused ≡ 0 → {f : Ate} {r r′ : ℕ} {s linked state′ report′ area′ : List ℕ} → Eats (w .edition) (w .link) (w .slots) (storePart state) report area piece f s report′ area′
-        → length s ≡ storeSize → Lays 0 linkSize (linkOctets (f .link)) (take storePlace state ++ (s ++ drop storeSize (drop storePlace state))) r linked
-        → Lays slotsPlace slotsSize (slotsOctets (f .slots .slots)) linked r′ state′ → Feeds state report area piece (f .refused) (f .eaten) (flag (f .reported)) state′ report′ area′
-    feeds-moved os z {s = s} y n d d′ = feeds-on z y refl (slots-over (link-over (store-over (lifted-holds state os e z) s n) d) d′)
 
 -- ---- a silence
 module _ (state report : List ℕ) where

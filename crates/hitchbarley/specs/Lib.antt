@@ -5,3 +5,4 @@ pub mod Services
 pub mod Trunk
 pub mod Replay
 pub mod Offering
+pub mod Feeding

@@ -1,9 +1,12 @@
 // One trunk: its state is octets that the caller lends.
 use collector::Collector;
+use collector::frame;
 use collector::lent;
+use frames::Outcome;
 ghost use Rattle.collector.specs.Calls.{freshCollector};
 ghost use Rattle.state.specs.Calls.{Saves};
 ghost use Rattle.state.specs.Edition.{editionOf};
+ghost use Rattle.hitchbarley.specs.Feeding.{Judged, Framed, FrameActs};
 ghost use Rattle.hitchbarley.specs.Trunk.{Feeds, Stills, Forgets};
 
 // Makes a fresh state of the edition that `later` says: 0 is 1995, any other number the later one. 0, or 60.
@@ -13,6 +16,60 @@ pub extern "C" fn hb_fresh(state: &mut [u8], later: u8) -> u8
 {
     let edition = state::edition_of(later);
     state::save(Collector::fresh(edition), state)
+}
+
+// A good frame, whose head and data stand in the state area: slots are lifted, and laid back, only where it carries a network header.
+fn good_frame(state: &mut [u8], report: &mut [u8], area: &mut [u8])
+    requires { ⌜ Framed (now state) (now report) (now area) ⌝ }
+    ensures { λ _. ⌜ FrameActs (now (state .entry)) (now (area .entry)) (now (state .exit)) (now (report .exit)) (now (area .exit)) ⌝ }
+{
+    let head = state::head_at(state);
+    let end = state::STORE + (frames::length_of(head) as usize);
+    if frame::carries(head) {
+        let edition = state::edition_of(state[state::EDITION]);
+        let slots = state::slots_at(state);
+        let slots = frame::act(
+            edition,
+            head,
+            &state[state::STORE..end],
+            slots,
+            report,
+            area,
+        );
+        state::lay_slots(slots, state);
+        return;
+    }
+    frame::put_other(head, &state[state::STORE..end], report);
+}
+
+// A piece eaten where the state's octets stand, in a state that 59 passes.
+fn feed_on(
+    state: &mut [u8],
+    piece: &[u8],
+    report: &mut [u8],
+    area: &mut [u8],
+    eaten: &mut usize,
+    reported: &mut u8,
+)
+    requires { ⌜ Judged (now state) (now report) (now area) ⌝ }
+    ensures { λ _. ⌜ Feeds (now (state .entry)) (now (report .entry)) (now (area .entry)) (now (piece .entry)) 0 (now (eaten .exit)) (now (reported .exit)) (now (state .exit)) (now (report .exit)) (now (area .exit)) ⌝ }
+{
+    let f = feeding::eat(state, piece);
+    *eaten = f.eaten;
+    let ended = f.outcome;
+    match ended {
+        Outcome::Quiet => {
+            *reported = 0;
+        }
+        Outcome::Damage(d) => {
+            *reported = 1;
+            frame::put_damage(report, d);
+        }
+        Outcome::Frame => {
+            *reported = 1;
+            good_frame(state, report, area);
+        }
+    }
 }
 
 // Eats a piece's octets through the first that causes a report, else all: 0, 60 or 59.
@@ -35,33 +92,12 @@ pub extern "C" fn hb_feed(
     if area.len() != 65536 {
         return 60;
     }
-    let o = state::lift(state);
-    let n = o.refused;
+    let n = state::judge(state);
     if n != 0 {
         return n;
     }
-    let edition = o.edition;
-    let link = o.link;
-    let slots = o.slots;
-    let f = lent::feed(
-        edition,
-        link,
-        slots,
-        &mut state[state::STORE..state::STORE_END],
-        piece,
-        report,
-        area,
-    );
-    let link = f.link;
-    *eaten = f.eaten;
-    *reported = f.reported as u8;
-    if f.moved {
-        let slots = f.slots;
-        state::lay(link, slots, state);
-        return f.refused;
-    }
-    state::lay_link(link, state);
-    f.refused
+    feed_on(state, piece, report, area, eaten, reported);
+    0
 }
 
 // The line fell silent: 0, 60 or 59.

@@ -147,3 +147,7 @@ module _ (s : List ℕ) (at n d i : ℕ) where
 -- an item that was read goes on and stays inside
 pub item-past : (s : List ℕ) (at d i : ℕ) (l l1 : List ℕ) (q : Step) → ItemSays s at d i l l1 q → (p k : ℕ) → q ≡ Next p k → (at < p) × (p ≤ length s)
 item-past s at d i l l1 q says p k e = let v = subst (ItemSays s at d i l l1) e says in (v .1 .on, v .1 .inside)
+
+-- and so does a group
+pub group-past : (s : List ℕ) (at n d i : ℕ) (l l1 : List ℕ) (q : Step) → GroupSays s at n d i l l1 q → (p k : ℕ) → q ≡ Next p k → (at < p) × (p ≤ length s)
+group-past s at n d i l l1 q says p k e = let v = subst (GroupSays s at n d i l l1) e says in (v .1 .on, v .1 .inside)

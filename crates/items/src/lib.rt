@@ -2,6 +2,7 @@
 mod cycle;
 mod records;
 
+use tags::Tag;
 ghost use mathlib.Core.Path.{_≡_};
 ghost use Rattle.items.specs.Reading.{itemsOf, counted, itemAt, oneAt, endOf};
 ghost use Rattle.items.specs.Cycle.{Ran};
@@ -36,20 +37,50 @@ fn run(s: &[u8], out: &mut [u8]) -> Tally
     let mut p = 0;
     let mut k = 0;
     while p < s.len() {
-        let r = cycle::item(s, p, 0, k, out);
-        match r {
-            Step::Next { at, items } => {
-                p = at;
-                k = items;
+        if cycle::MOST <= k {
+            return Tally::Refused(38);
+        }
+        let t = tags::head(s, p);
+        match t {
+            Tag::Item {
+                kind,
+                number,
+                value,
+                place,
+                len,
+            } => {
+                records::put(out, k, kind, number, 0, value, place, len);
+                p = place + len;
+                k += 1;
             }
-            Step::Closed {
+            Tag::Opening { number, place } => {
+                records::put(out, k, 2, number, 0, 0, place, 0);
+                let r = cycle::group(s, place, number, 0, k + 1, out);
+                match r {
+                    Step::Next { at, items } => {
+                        p = at;
+                        k = items;
+                    }
+                    // A group never answers so.
+                    Step::Closed {
+                        number: _,
+                        at: _,
+                        items: _,
+                    } => {
+                        return Tally::Refused(35);
+                    }
+                    Step::Refused(x) => {
+                        return Tally::Refused(x);
+                    }
+                }
+            }
+            Tag::Closing {
                 number: _,
-                at: _,
-                items: _,
+                place: _,
             } => {
                 return Tally::Refused(35);
             }
-            Step::Refused(x) => {
+            Tag::Refused(x) => {
                 return Tally::Refused(x);
             }
         }

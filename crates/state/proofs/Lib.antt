@@ -6,3 +6,8 @@ pub mod Slots
 pub mod Whole
 pub mod Exact
 pub mod Places
+pub mod LinkFair
+pub mod SlotFair
+pub mod OneKey
+pub mod Pairs
+pub mod Fair

@@ -1,11 +1,13 @@
 -- An area that holds a state, and what it holds when a part is laid over its place.
 use Prim.Native.Nat.{ℕ, _+_}
 use native.Mathlib.Omega.{arith}
-use mathlib.Core.Path.{_≡_, sym, ap, _∙_}
+use mathlib.Core.Path.{_≡_, refl, sym, ap, _∙_}
+use mathlib.Core.Bool.{true}
 use mathlib.Core.List.{List, [], _++_, append-assoc, append-nil}
 use lib.ListN.{length, take, drop, length-append}
 use lib.Seq.{take-at, drop-at}
 use borrow.Author.Tests.{eq-eqb}
+use Rattle.octets.specs.Every.{octets-part}
 use Rattle.octets.specs.Reading.{Octets}
 use Rattle.octets.specs.Splice.{splice}
 use Rattle.apdu.specs.declared.Edition.{Edition}
@@ -13,12 +15,13 @@ use Rattle.frames.specs.declared.Link.{Link}
 use Rattle.rebuild.specs.declared.Slots.{Slots}
 use Rattle.collector.specs.Lent.{over}
 use Rattle.collector.specs.declared.Collector.{Collector}
-use Rattle.state.specs.Link.{linkSize, linkOctets}
-use Rattle.state.specs.Layout.{storePlace, storeSize, slotsPlace, slotsSize, stateSize, slotsOctets, behindOctets, stateOctets}
-use Rattle.state.specs.Calls.{loadOf, Loads, Lays}
-use Rattle.state.proofs.Link.{link-size, link-shaped}
+use Rattle.state.specs.Link.{linkSize, linkOctets, linkGood, linkOf}
+use Rattle.state.specs.Layout.{storePlace, storeSize, editionPlace, slotsPlace, slotsSize, stateSize, linkPart, storePart, slotsOctets, behindOctets, stateOctets}
+use Rattle.state.specs.Calls.{stateGood, stateAt, loadOf, Loads, Lays}
+use Rattle.state.proofs.Parts.{cut-size, cut-then}
+use Rattle.state.proofs.Link.{link-size, link-shaped, link-stands, link-fits}
 use Rattle.state.proofs.Slots.{slots-size, slots-shaped}
-use Rattle.state.proofs.Whole.{Shaped, fits-shaped, front, in-front, front-long, state-size}
+use Rattle.state.proofs.Whole.{Shaped, fits-shaped, front, in-front, front-long, state-size, state-back}
 use Rattle.state.proofs.Exact.{shaped-loads, loads-only, accepted}
 
 pub record Holds (o : List ℕ) (c : Collector) : Type 0 where
@@ -37,6 +40,10 @@ holds-octets h = h .octets
 
 pub holds-loads : {o : List ℕ} {c : Collector} → Holds o c → Loads o c
 holds-loads {o} {c} h = rw (h .octets) (shaped-loads c (h .shaped))
+
+-- and is what its octets hold
+pub holds-at : {o : List ℕ} {c : Collector} → Holds o c → (stateAt o ≡ c) × (stateGood o ≡ true)
+holds-at {o} {c} h = rw (h .octets) (state-back c (h .shaped))
 
 pub holds-size : {o : List ℕ} {c : Collector} → Holds o c → length o ≡ stateSize
 holds-size {o} {c} h = ap length (h .octets) ∙ state-size c (h .shaped)
@@ -96,4 +103,21 @@ module _ {o : List ℕ} {e : Edition} {l : Link} {t : Slots} {s : List ℕ} (h :
       record {
         shaped = record { head = h .shaped .head; store = h .shaped .store; four = slots-shaped (t′ .slots) (y .long) };
         octets = lays y ∙ rw w (k ∙ in-front (over e l t′ s));
+      }
+
+  -- another receiver in front, whose link's octets are good, and what stands behind it as it was
+  pub receiver-over : {o′ : List ℕ} → Octets o′ → length o′ ≡ stateSize → linkGood (linkPart o′) ≡ true → drop editionPlace o′ ≡ drop editionPlace o
+      → Holds o′ (over e (linkOf (linkPart o′)) t (storePart o′))
+  unfolding stateOctets
+  receiver-over {o′} os n g b =
+      let a : linkPart o′ ++ drop storePlace o′ ≡ o′ = cut-then o′ 0 linkSize storePlace refl in
+      let d : storePart o′ ++ drop editionPlace o′ ≡ drop storePlace o′ = cut-then o′ storePlace storeSize editionPlace refl in
+      let f = link-fits (linkPart o′) (octets-part o′ 0 linkSize os) (cut-size linkSize 0 o′ (omega arith)) g in
+      let k = link-stands (linkPart o′) (octets-part o′ 0 linkSize os) (cut-size linkSize 0 o′ (omega arith)) g in
+      let m : length (link ++ s) ≡ editionPlace = rw (length-append, link-long, h .shaped .store) in
+      let w : drop editionPlace o ≡ behind = rw (parts, ← append-assoc link s behind) (drop-at (link ++ s) behind editionPlace m) in
+      let q : o′ ≡ linkPart o′ ++ (storePart o′ ++ behind) = sym a ∙ ap (λ (x : List ℕ). linkPart o′ ++ x) (sym d ∙ ap (λ (x : List ℕ). storePart o′ ++ x) (b ∙ w)) in
+      record {
+        shaped = record { head = f .head; store = cut-size storeSize storePlace o′ (omega arith); four = h .shaped .four };
+        octets = q ∙ ap (λ (x : List ℕ). x ++ (storePart o′ ++ behind)) (sym k);
       }

@@ -13,7 +13,7 @@ use Rattle.frames.specs.declared.Link.{Link}
 use Rattle.rebuild.specs.declared.Slot.{Slot}
 use Rattle.rebuild.specs.declared.Slots.{Slots}
 use Rattle.collector.specs.declared.Collector.{Collector}
-use Rattle.collector.specs.Calls.{freshCollector, slotCount}
+use Rattle.collector.specs.Calls.{freshCollector, slotCount, sound, slotsOf}
 use Rattle.state.specs.declared.Lifted.{Lifted}
 use Rattle.state.specs.Link.{linkSize, linkOctets, linkGood, linkOf}
 use Rattle.state.specs.Edition.{editionGood, editionOf}
@@ -64,6 +64,13 @@ loadOf o = pick (eqb (length o) stateSize) (pick (stateGood o) (loaded 0 (stateA
 -- the octets are accepted as this state
 abbrev pub Loads : List ℕ → Collector → Type 0
 Loads o c = loadOf o ≡ loaded 0 c
+
+-- ---- judging: 60; 59 for octets that are no state's, and for a state that 59 does not pass; else 0
+unfoldable pub fairOf : List ℕ → Bool
+fairOf o = both (stateGood o) (sound (stateAt o .receiver) (slotsOf (stateAt o)))
+
+unfoldable pub judgeOf : List ℕ → ℕ
+judgeOf o = pick (eqb (length o) stateSize) (pick (fairOf o) 0 59) 60
 
 -- ---- lifting: edition, link and slots of what the area is loaded as; its frame store stays in its place
 abbrev pub liftedAs : Loaded → Lifted

@@ -3,3 +3,4 @@ pub mod Slot
 pub mod Edition
 pub mod Layout
 pub mod Calls
+pub mod Judging

@@ -1,4 +1,5 @@
 // A state as octets of a lent area: its edition, link and slots lifted from there, link and slots laid back, its frame store left in place; a whole state saved there.
+mod judging;
 mod loading;
 mod saving;
 
@@ -8,11 +9,12 @@ use frames::Link;
 use rebuild::Slots;
 ghost use mathlib.Core.Path.{_≡_};
 ghost use Prim.Native.Nat.{_<_};
+ghost use lib.ListN.{length};
 ghost use Rattle.collector.specs.Calls.{slotCount};
-ghost use Rattle.state.specs.Link.{linkSize, linkOctets};
+ghost use Rattle.state.specs.Link.{linkSize, linkOctets, linkOf};
 ghost use Rattle.state.specs.Edition.{editionOf};
-ghost use Rattle.state.specs.Layout.{slotsPlace, slotPlace, slotsSize, slotsOctets};
-ghost use Rattle.state.specs.Calls.{liftOf, Lays, LaysBoth, Saves};
+ghost use Rattle.state.specs.Layout.{slotsPlace, slotPlace, slotsSize, stateSize, linkPart, slotsOctets};
+ghost use Rattle.state.specs.Calls.{stateAt, judgeOf, liftOf, Lays, LaysBoth, Saves};
 
 // The octets of a link, in front; where the frame store stands and ends; the edition's place; where the slots stand, and the octets of each; the octets of a state.
 pub const LINK: usize = 9;
@@ -47,6 +49,42 @@ pub fn edition_of(octet: u8) -> Edition
     Edition::Later
 }
 
+// 60; 59 for octets that are no state's or a state that 59 does not pass; else 0. Judged on the octets where they stand.
+pub fn judge(area: &[u8]) -> u8
+    ensures { λ r. ⌜ r ≡ judgeOf (now (area .entry)) ⌝ }
+{
+    if area.len() != SIZE {
+        return 60;
+    }
+    if judging::fair(area) {
+        return 0;
+    }
+    59
+}
+
+// The head of the frame that a state's octets hold.
+pub fn head_at(area: &[u8]) -> [u8; 5]
+    requires { ⌜ length (now area) ≡ stateSize ⌝ }
+    ensures { λ r. ⌜ r ≡ linkOf (linkPart (now (area .entry))) .head ⌝ }
+{
+    loading::head_of(&area[0..LINK])
+}
+
+// The slots that a state's octets hold.
+pub fn slots_at(area: &[u8]) -> Slots
+    requires { ⌜ length (now area) ≡ stateSize ⌝ }
+    ensures { λ r. ⌜ r ≡ stateAt (now (area .entry)) .slots ⌝ }
+{
+    Slots {
+        slots: [
+            loading::slot_at(area, 0),
+            loading::slot_at(area, 1),
+            loading::slot_at(area, 2),
+            loading::slot_at(area, 3),
+        ],
+    }
+}
+
 // What lifting answers: 60, 59 or 0 with edition, link and slots; the store stays in its place in the area.
 pub struct Lifted {
     pub refused: u8,
@@ -65,7 +103,7 @@ pub fn lift(area: &[u8]) -> Lifted
     if loading::state_good(area) {
         let edition = edition_of(area[EDITION]);
         let link = loading::link_of(&area[0..LINK]);
-        let slots = loading::slots_at(area);
+        let slots = slots_at(area);
         return Lifted {
             refused: 0,
             edition,

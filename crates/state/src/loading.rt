@@ -19,7 +19,7 @@ ghost use Rattle.state.specs.Link.{linkSize, phaseGood, linkGood, phaseA
 ghost use Rattle.state.specs.Edition.{editionGood};
 ghost use Rattle.state.specs.Slot.{slotSize, slotGood, slotOf};
 ghost use Rattle.state.specs.Layout.{stateSize};
-ghost use Rattle.state.specs.Calls.{goodAt, slotsGood, stateGood, slotAt, stateAt, loaded, liftedAs};
+ghost use Rattle.state.specs.Calls.{goodAt, slotsGood, stateGood, slotAt, loaded, liftedAs};
 
 // A refusal, beside the fresh link and slots of 1995.
 pub fn refused(n: u8) -> Lifted
@@ -133,7 +133,7 @@ fn phase_at(p: u8, high: u8, low: u8) -> Phase
     Phase::Data(octets::pair(high, low))
 }
 
-fn head_of(s: &[u8]) -> [u8; 5]
+pub fn head_of(s: &[u8]) -> [u8; 5]
     requires { ⌜ length (now s) ≡ linkSize ⌝ }
     ensures { λ r. ⌜ r ≡ take 5 (drop 3 (now (s .entry))) ⌝ }
 {
@@ -176,21 +176,11 @@ fn slot_of(s: &[u8]) -> Slot
 }
 
 // Slot i.
-fn slot_at(o: &[u8], i: usize) -> Slot
+pub fn slot_at(o: &[u8], i: usize) -> Slot
     requires { ⌜ (length (now o) ≡ stateSize) × (i < slotCount) ⌝ }
     ensures { λ r. ⌜ r ≡ slotAt (now (o .entry)) i ⌝ }
 {
     let at = slot_place(i);
     let end = at + SLOT;
     slot_of(&o[at..end])
-}
-
-// The slots that a state's octets hold.
-pub fn slots_at(o: &[u8]) -> Slots
-    requires { ⌜ length (now o) ≡ stateSize ⌝ }
-    ensures { λ r. ⌜ r ≡ stateAt (now (o .entry)) .slots ⌝ }
-{
-    Slots {
-        slots: [slot_at(o, 0), slot_at(o, 1), slot_at(o, 2), slot_at(o, 3)],
-    }
 }

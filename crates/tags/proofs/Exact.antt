@@ -84,6 +84,10 @@ pub most-longest : (n : ℕ) → most n ≤ longest
 unfolding most
 most-longest n = table-up-to longest (0 ∷ 0 ∷ 4 ∷ 4 ∷ 4 ∷ 8 ∷ longest ∷ longest ∷ longest ∷ 4 ∷ 4 ∷ 4 ∷ 4 ∷ []) refl n
 
+pub least-small : (n : ℕ) → least n ≤ longest
+unfolding least
+least-small n = table-up-to longest (0 ∷ 0 ∷ 1 ∷ 1 ∷ 4 ∷ 8 ∷ 0 ∷ 1 ∷ 1 ∷ 1 ∷ 4 ∷ 4 ∷ 4 ∷ []) refl n
+
 -- the tag octet of a context item: bits 7-4 the number, bit 3, and low in bits 2-0
 module _ (s : List ℕ) (at n low : ℕ) (small : low < 8) (ok : n ≤ 254) (here : at < length s) (is : oct s at ≡ highBits n * 16 + 8 + low) (has : Has s (at + 1) (numberOctets n)) where
   context-head : headAt s at ≡ contextAt s low n (at + 1 + length (numberOctets n))

@@ -1,4 +1,5 @@
 pub mod Bounds
+pub mod ByClass
 pub mod Spelling
 pub mod Rule
 pub mod Exact

@@ -4,3 +4,4 @@ pub mod Layout
 pub mod Decide
 pub mod Signed
 pub mod Rows
+pub mod Tagged

@@ -1,44 +1,74 @@
 // An item by its class, context or application, once its tag octet and number are read.
 use crate::Field;
 use crate::Tag;
-use crate::contents::contents;
-use crate::contents::high;
-use crate::contents::low;
+use crate::contents::by_type;
 use crate::fields::length;
+use crate::fields::number;
 ghost use mathlib.Core.Path.{_≡_};
-ghost use Rattle.tags.specs.Reading.{firstRule, contextAt, applicationAt};
+ghost use Prim.Native.Nat.{_/_, _≤_, _<_};
+ghost use Rattle.tags.specs.Tagged.{Tagged};
+ghost use Rattle.tags.specs.declared.Tag.the-variants.{Refused};
+ghost use Rattle.tags.specs.Reading.{headAt, contextAt, applicationAt};
 
-// What the tag octet alone breaks: 31, 32, or 0 where nothing.
-pub fn first_rule(b: u8) -> u8
-    ensures { λ r. ⌜ r ≡ firstRule b ⌝ }
+// The application item whose tag octet b stands at the place. A boolean's value is in the length bits, and it has no contents.
+pub fn application_head(s: &[u8], at: usize, b: u8) -> Tag
+    requires { ⌜ Tagged (now s) at b 0 ⌝ }
+    ensures { λ r. ⌜ r ≡ headAt (now (s .entry)) at ⌝ }
 {
     let n = b / 16;
     let l = b % 8;
-    if b % 16 / 8 == 1 {
-        return 0;
-    }
-    if n == 15 {
-        if l < 6 {
-            return 0;
-        }
-        return 32;
-    }
     if 12 < n {
-        return 31;
+        return Tag::Refused(above_twelve(s, at, b));
     }
     if 5 < l {
-        return 32;
+        return Tag::Refused(32);
     }
     if n == 1 {
         if 1 < l {
-            return 32;
+            return Tag::Refused(32);
         }
+        return Tag::Item {
+            kind: 0,
+            number: 1,
+            value: l,
+            place: at + 1,
+            len: 0,
+        };
     }
-    0
+    application(s, l, n, at + 1)
+}
+
+// What an application tag with a number above 12 in its tag octet b breaks. At 15 the second octet is reached.
+fn above_twelve(s: &[u8], at: usize, b: u8) -> u8
+    requires { ⌜ Tagged (now s) at b 0 × (12 < b / 16) ⌝ }
+    ensures { λ r. ⌜ Refused r ≡ headAt (now (s .entry)) at ⌝ }
+{
+    if b / 16 < 15 {
+        return 31;
+    }
+    if 5 < b % 8 {
+        return 32;
+    }
+    if s.len() <= at + 1 {
+        return 30;
+    }
+    31
+}
+
+// The context item whose tag octet b stands at the place.
+pub fn context_head(s: &[u8], at: usize, b: u8) -> Tag
+    requires { ⌜ Tagged (now s) at b 1 ⌝ }
+    ensures { λ r. ⌜ r ≡ headAt (now (s .entry)) at ⌝ }
+{
+    let f = number(s, at);
+    match f {
+        Field::Is { value, next } => context(s, b % 8, value as u8, next),
+        Field::Bad(x) => Tag::Refused(x),
+    }
 }
 
 // The context item of number n with l in the tag octet's length bits; p is the place after the number.
-pub fn context(s: &[u8], l: u8, n: u8, p: usize) -> Tag
+fn context(s: &[u8], l: u8, n: u8, p: usize) -> Tag
     ensures { λ r. ⌜ r ≡ contextAt (now (s .entry)) l n p ⌝ }
 {
     if l == 6 {
@@ -74,32 +104,15 @@ pub fn context(s: &[u8], l: u8, n: u8, p: usize) -> Tag
     }
 }
 
-// The application item of type n, likewise. A boolean's value is in the length bits, and it has no contents.
-pub fn application(s: &[u8], l: u8, n: u8, p: usize) -> Tag
+// The application item of type n that is no boolean, likewise.
+fn application(s: &[u8], l: u8, n: u8, p: usize) -> Tag
+    requires { ⌜ (n ≤ 12) × (n ≡ 1 → ⊥) ⌝ }
     ensures { λ r. ⌜ r ≡ applicationAt (now (s .entry)) l n p ⌝ }
 {
-    if 12 < n {
-        return Tag::Refused(31);
-    }
-    if n == 1 {
-        return Tag::Item {
-            kind: 0,
-            number: 1,
-            value: l,
-            place: p,
-            len: 0,
-        };
-    }
     let f = length(s, p, l);
     match f {
         Field::Is { value, next } => {
-            if value < low(n) {
-                return Tag::Refused(33);
-            }
-            if high(n) < value {
-                return Tag::Refused(33);
-            }
-            let x = contents(s, next, n, value);
+            let x = by_type(s, next, n, value);
             if 0 < x {
                 return Tag::Refused(x);
             }

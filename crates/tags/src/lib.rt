@@ -42,19 +42,8 @@ pub fn head(s: &[u8], at: usize) -> Tag
         return Tag::Refused(30);
     }
     let b = s[at];
-    let x = kinds::first_rule(b);
-    if 0 < x {
-        return Tag::Refused(x);
+    if b % 16 / 8 == 1 {
+        return kinds::context_head(s, at, b);
     }
-    let f = fields::number(s, at);
-    match f {
-        Field::Is { value, next } => {
-            let n = value as u8;
-            if b % 16 / 8 == 1 {
-                return kinds::context(s, b % 8, n, next);
-            }
-            kinds::application(s, b % 8, n, next)
-        }
-        Field::Bad(x) => Tag::Refused(x),
-    }
+    kinds::application_head(s, at, b)
 }

@@ -1,5 +1,6 @@
 use Rattle.items.proofs.Walk.{ran-long}
-use Rattle.items.proofs.Ways.{Through, through-none, fewer-left, run-goes, run-shut, run-stops, run-ends}
+use Rattle.items.proofs.Ways.{Through, through-none, item-fits, fewer-item, fewer-behind, run-over, run-stops, run-shut, run-alone, run-opens}
+use Rattle.items.proofs.Ways.{run-inner, run-never, run-ends}
 use lib.ListN.{length}
 use Prim.Native.Nat.{_-_}
 use borrow.Author.Needs.{needs}
@@ -18,17 +19,35 @@ run-spec =
     (tie.spec
     Inv-loop
     μ-loop
-    (λ c. ran-long _ _ (c .if1 .taken))
+    (λ c. search (needs, ran-long))
     (λ c. through-none _ _)
-    (λ c κs. tt)
     (λ c. search needs)
-    (λ c. search (needs, fewer-left))
-    (λ c. search (needs, run-goes))
+    (λ c. search (needs, run-over))
+    (λ c κs. search needs)
     (λ c. search needs)
-    (λ c. cc)
+    (λ c κs. search needs)
+    (λ c. search (needs, item-fits))
+    (λ c. search needs)
+    (λ c. search (needs, fewer-item))
+    (λ c. search (needs, run-alone))
+    (λ c. search needs)
+    (λ c κs. search needs)
+    (λ c. search needs)
+    (λ c κs. search needs)
+    (λ c. search needs)
+    (λ c. search (needs, fewer-behind))
+    (λ c. search (needs, run-opens))
+    (λ c. search needs)
+    (λ c. search needs)
+    (λ c. search (needs, run-never))
+    (λ c. search needs)
+    (λ c. search needs)
+    (λ c. search (needs, run-inner))
+    (λ c. search needs)
+    (λ c. search needs)
     (λ c. search (needs, run-shut))
     (λ c. search needs)
-    (λ c. cc)
+    (λ c. search needs)
     (λ c. search (needs, run-stops))
-    (λ c. cc)
+    (λ c. search needs)
     (λ c. search (needs, run-ends)))

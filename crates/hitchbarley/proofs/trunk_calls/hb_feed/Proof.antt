@@ -1,7 +1,8 @@
 use native.Mathlib.Omega.{arith}
 use denote.Ref.{now}
 use Rattle.octets.specs.Reading.{Octets}
-use Rattle.hitchbarley.proofs.Passed.{lifted-size, feeds-line, feeds-area, feeds-not, feeds-stayed, feeds-moved}
+use Rattle.hitchbarley.proofs.Passed.{feeds-line, feeds-area}
+use Rattle.hitchbarley.proofs.Fed.{fed-not}
 use borrow.Author.Needs.{needs}
 use Rattle.hitchbarley.proofs.trunk_calls.hb_feed.Statement.{statement}
 use Rattle.hitchbarley.proofs.trunk_calls.hb_feed.Tie as tie
@@ -18,19 +19,9 @@ hb-feed-spec =
     (λ c. search (needs, feeds-area))
     (λ c κs. search needs)
     (λ c. search needs)
-    (λ c. search (needs, feeds-not))
-    (λ c. search needs)
-    (λ c. search needs)
-    (λ c. omega (arith, lifted-size (now (c .before .before .before .before .before .before .before .before .before .before .before .args .state)) (c .before .before .before .lift .ensures) (c .before .before .if3 .left)))
-    (λ c κs. search needs)
-    (λ c. search needs)
+    (λ c. search (needs, fed-not, known))
     (λ c κs. search needs)
     (λ c. search needs)
     (λ c. search needs)
     (λ c. search needs)
-    (λ c. feeds-moved _ _ _ _ (c .before .before .before .before .before .before .before .before .before .before .before .before .before .before .before .before .before .before .before .before .before .before .before .before .if1 .left) (c .before .before .before .before .before .before .before .before .before .before .before .before .before .before .before .before .before .before .before .before .before .before .before .if2 .left) (c .before .before .before .before .before .before .before .before .before .before .before .before .before .before .before .before .before .before .before .before .before .lift .result) (c .before .before .before .before .before .before .before .before .before .before .before .before .before .before .before .before .before .before .before .before .before .lift .ensures) (known (c .before .before .before .before .before .before .before .before .before .before .before .before .before .before .before .before .before .before .before .before .before .before .before .before .before .before .before .before)) (c .before .before .before .before .before .before .before .before .before .before .before .before .before .before .before .before .before .before .before .before .if3 .left) (c .before .before .before .before .before .before .before .before .before .before .before .before .before .before .feed .ensures) (search needs) (c .before .before .lay .ensures .link) (c .before .before .lay .ensures .slots))
-    (λ c κs. search needs)
-    (λ c. search needs)
-    (λ c. search needs)
-    (λ c. search needs)
-    (λ c. feeds-stayed _ _ _ _ (c .before .before .before .before .before .before .before .before .before .before .before .before .before .before .before .before .before .before .before .before .before .before .before .if1 .left) (c .before .before .before .before .before .before .before .before .before .before .before .before .before .before .before .before .before .before .before .before .before .before .if2 .left) (c .before .before .before .before .before .before .before .before .before .before .before .before .before .before .before .before .before .before .before .before .lift .result) (c .before .before .before .before .before .before .before .before .before .before .before .before .before .before .before .before .before .before .before .before .lift .ensures) (known (c .before .before .before .before .before .before .before .before .before .before .before .before .before .before .before .before .before .before .before .before .before .before .before .before .before .before .before)) (c .before .before .before .before .before .before .before .before .before .before .before .before .before .before .before .before .before .before .before .if3 .left) (c .before .before .before .before .before .before .before .before .before .before .before .before .before .feed .ensures) (search needs) (c .before .before .lay-link .ensures) (c .before .before .before .before .if4 .left)))
+    (λ c. search needs))

@@ -1,0 +1,5 @@
+pub mod Parts
+pub mod Fronts
+pub mod Spans
+pub mod Datas
+pub mod Eaten

@@ -1,0 +1,18 @@
+use Rattle.state.proofs.Pairs.{alone-ways}
+use borrow.Author.Needs.{needs}
+use Rattle.state.proofs.judging.first_fair.Statement.{statement}
+use Rattle.state.proofs.judging.first_fair.Tie as tie
+
+pub first-fair-spec : {M : Type 1} → statement M
+first-fair-spec =
+    tie.close
+    (tie.spec
+    (λ c κs. search needs)
+    (λ c. search needs)
+    (λ c. search (needs, alone-ways))
+    (λ c κs. search needs)
+    (λ c κs. search needs)
+    (λ c κs. search needs)
+    (λ c. search (needs, alone-ways))
+    (λ c. search (needs, alone-ways))
+    (λ c. search (needs, alone-ways)))

@@ -1,0 +1,31 @@
+use Rattle.state.proofs.OneKey.{key-ways}
+use borrow.Author.Needs.{needs}
+use Rattle.state.proofs.judging.same_key.Statement.{statement}
+use Rattle.state.proofs.judging.same_key.Tie as tie
+
+pub same-key-spec : {M : Type 1} → statement M
+same-key-spec =
+    tie.close
+    (tie.spec
+    (λ c κs. search needs)
+    (λ c κs. search needs)
+    (λ c. search needs)
+    (λ c. search needs)
+    (λ c. search needs)
+    (λ c. search needs)
+    (λ c. search (needs, key-ways))
+    (λ c. search needs)
+    (λ c. search needs)
+    (λ c. search needs)
+    (λ c. search needs)
+    (λ c. search (needs, key-ways))
+    (λ c. search needs)
+    (λ c. search needs)
+    (λ c. search needs)
+    (λ c. search needs)
+    (λ c. search (needs, key-ways))
+    (λ c. search needs)
+    (λ c. search needs)
+    (λ c. search needs)
+    (λ c. search needs)
+    (λ c. search (needs, key-ways)))

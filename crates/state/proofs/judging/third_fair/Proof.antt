@@ -1,0 +1,14 @@
+use Rattle.state.proofs.Pairs.{alone-ways}
+use borrow.Author.Needs.{needs}
+use Rattle.state.proofs.judging.third_fair.Statement.{statement}
+use Rattle.state.proofs.judging.third_fair.Tie as tie
+
+pub third-fair-spec : {M : Type 1} → statement M
+third-fair-spec =
+    tie.close
+    (tie.spec
+    (λ c κs. search needs)
+    (λ c. search needs)
+    (λ c. search (needs, alone-ways))
+    (λ c κs. search needs)
+    (λ c. search (needs, alone-ways)))
