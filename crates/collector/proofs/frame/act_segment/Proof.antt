@@ -15,4 +15,4 @@ act-segment-spec =
     (λ c κs. search (needs, named))
     (λ c. search needs)
     (λ c. search needs)
-    (λ c v. search (needs, segment-acted, segment-is)))
+    (λ c. search (needs, segment-acted, segment-is)))

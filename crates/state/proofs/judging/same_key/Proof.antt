@@ -1,4 +1,4 @@
-use Rattle.state.proofs.OneKey.{key-ways}
+use Rattle.state.proofs.Pairs.{one-lifted}
 use borrow.Author.Needs.{needs}
 use Rattle.state.proofs.judging.same_key.Statement.{statement}
 use Rattle.state.proofs.judging.same_key.Tie as tie
@@ -9,23 +9,5 @@ same-key-spec =
     (tie.spec
     (λ c κs. search needs)
     (λ c κs. search needs)
-    (λ c. search needs)
-    (λ c. search needs)
-    (λ c. search needs)
-    (λ c. search needs)
-    (λ c. search (needs, key-ways))
-    (λ c. search needs)
-    (λ c. search needs)
-    (λ c. search needs)
-    (λ c. search needs)
-    (λ c. search (needs, key-ways))
-    (λ c. search needs)
-    (λ c. search needs)
-    (λ c. search needs)
-    (λ c. search needs)
-    (λ c. search (needs, key-ways))
-    (λ c. search needs)
-    (λ c. search needs)
-    (λ c. search needs)
-    (λ c. search needs)
-    (λ c. search (needs, key-ways)))
+    (λ c κs. search needs)
+    (λ c. search (needs, one-lifted)))

@@ -9,9 +9,5 @@ slots-fair-spec =
     (tie.spec
     (λ c κs. search needs)
     (λ c κs. search needs)
-    (λ c κs. search needs)
-    (λ c κs. search needs)
-    (λ c. search (needs, one-by-one))
-    (λ c. search (needs, one-by-one))
     (λ c. search (needs, one-by-one))
     (λ c. search (needs, one-by-one)))

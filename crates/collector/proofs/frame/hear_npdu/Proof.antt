@@ -1,11 +1,11 @@
-use Rattle.collector.proofs.Actions.{npdu-turned, npdu-spoken, npdu-on}
+use Rattle.collector.proofs.Hearing.{npdu-turned, npdu-spoken, npdu-on}
 use Rattle.collector.proofs.Content.{next-inside}
 use borrow.Author.Needs.{needs}
-use Rattle.collector.proofs.frame.act_npdu.Statement.{statement}
-use Rattle.collector.proofs.frame.act_npdu.Tie as tie
+use Rattle.collector.proofs.frame.hear_npdu.Statement.{statement}
+use Rattle.collector.proofs.frame.hear_npdu.Tie as tie
 
-pub act-npdu-spec : {M : Type 1} → statement M
-act-npdu-spec =
+pub hear-npdu-spec : {M : Type 1} → statement M
+hear-npdu-spec =
     tie.close
     (tie.spec
     (λ c κs. search needs)
@@ -22,6 +22,5 @@ act-npdu-spec =
     (λ c. search (needs, next-inside))
     (λ c. search needs)
     (λ c κs. search needs)
-    (λ c. search needs)
     (λ c. search needs)
     (λ c. search (needs, npdu-on)))

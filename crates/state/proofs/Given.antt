@@ -1,0 +1,75 @@
+-- Octets that are an address which a part of a header gives, asked where they stand: an absent one, all 0, and one that keeps the part's rules, 0 past its length.
+use Prim.Native.Nat.{ℕ, zero, suc, _+_, _-_, _*_, _≤_, _<_}
+use native.Mathlib.Omega.{arith}
+use mathlib.Core.Path.{_≡_, refl, sym, _∙_}
+use mathlib.Core.Bool.{true, false}
+use mathlib.Core.List.{List}
+use lib.Dec.{eqb, ltb}
+use lib.ListN.{length, take, drop, length-drop, take-append-drop}
+use lib.Seq.{getD-take, getD-drop, take-all}
+use borrow.Author.Tests.{lt-ltb, ltb-true, ltb-false, eqb-true, eqb-false}
+use Rattle.octets.specs.Choice.{given, not-so, by-test}
+use Rattle.octets.specs.Numbers.{valueAt}
+use Rattle.octets.specs.Reading.{oct}
+use Rattle.npdu.specs.Address.{absent, partAddress, gives}
+use Rattle.npdu.specs.Layout.{zeros, cut}
+use Rattle.npdu.specs.Valid.{PartValid}
+use Rattle.npdu.proofs.AddressLaws.{part-gives}
+use Rattle.state.specs.Slot.{addressSize, addressAt}
+use Rattle.state.proofs.Parts.{cut-run, cut-size}
+use Rattle.state.proofs.Address.{run-zeros, address-none}
+
+-- ---- a number that is 0 has octets that are 0
+value-zeros : (s : List ℕ) (p n : ℕ) → valueAt s p n ≡ 0 → (k : ℕ) → p ≤ k → k < p + n → oct s k ≡ 0
+unfolding valueAt
+value-zeros s p zero e k a b = absurd (omega arith)
+value-zeros s p (suc n) e k a b =
+    let l : oct s (p + n) ≡ 0 = omega arith in
+    by-test (eqb k (p + n)) (λ t. rw (eqb-true k (p + n) t) l) (λ f. let d = eqb-false k (p + n) f in value-zeros s p n (omega arith) k a (omega arith))
+
+-- ---- the address octets past the length, up to number i, are 0
+abbrev pub Past : List ℕ → ℕ → ℕ → ℕ → Type 0
+Past s at len i = (k : ℕ) → len ≤ k → k < i → oct s (at + 4 + k) ≡ 0
+
+pub past-none : (s : List ℕ) (at len i : ℕ) → i ≡ len → Past s at len i
+past-none s at len i e k a b = absurd (omega arith)
+
+pub past-more : (s : List ℕ) (at len i : ℕ) → Past s at len i → oct s (at + 4 + i) ≡ 0 → Past s at len (i + 1)
+past-more s at len i p e k a b = by-test (eqb k i) (λ t. rw (eqb-true k i t) e) (λ f. let d = eqb-false k i f in p k a (omega arith))
+
+-- seven octets that are 0 past a length are as a reading shows them
+cut-stays : (x : List ℕ) (len : ℕ) → length x ≡ 7 → len ≤ 7 → ((k : ℕ) → len ≤ k → k < 7 → oct x k ≡ 0) → cut len x ≡ x
+unfolding cut
+cut-stays x len seven h z =
+    let n : length (drop len x) ≤ 7 - len = rw length-drop (omega arith) in
+    let e : drop len x ≡ zeros (7 - len) =
+    sym (take-all (7 - len) (drop len x) n) ∙ cut-run x (7 - len) len (omega arith) ∙ run-zeros x len (7 - len) (λ k a b. z k a (omega arith)) in
+    rw (← e) (take-append-drop len x)
+
+-- ---- the address at a place, and a part with a least length and a greatest network number
+module _ (s : List ℕ) (at low top : ℕ) (there : at + addressSize ≤ length s) where
+  -- none: its eleven octets are 0
+  absent-gives : gives low top absent ≡ true
+  unfolding partAddress given
+  absent-gives = part-gives low top false 0 0 (zeros 7) (λ z. not-so z) refl
+
+  pub given-none : oct s at ≡ 0 → valueAt s (at + 1) 4 ≡ 0 → valueAt s (at + 5) 4 ≡ 0 → valueAt s (at + 9) 2 ≡ 0 → gives low top (addressAt s at) ≡ true
+  given-none f a b c = rw (address-none s at there each) absent-gives
+    where
+      each : (k : ℕ) → at ≤ k → k < at + addressSize → oct s k ≡ 0
+      each k l h =
+          by-test (eqb k at) (λ t. rw (eqb-true k at t) f) (λ n.
+          by-test (ltb k (at + 5)) (λ t. value-zeros s (at + 1) 4 a k (omega (arith, eqb-false k at n)) (omega (arith, ltb-true k (at + 5) t))) (λ m.
+          by-test (ltb k (at + 9)) (λ t. value-zeros s (at + 5) 4 b k (omega (arith, ltb-false k (at + 5) m)) (omega (arith, ltb-true k (at + 9) t)))
+          (λ o. value-zeros s (at + 9) 2 c k (omega (arith, ltb-false k (at + 9) o)) (omega arith))))
+
+  -- one that is there
+  pub given-there : (oct s at ≡ 0 → ⊥) → PartValid (oct s (at + 1) * 256 + oct s (at + 2)) (oct s (at + 3)) low top → Past s at (oct s (at + 3)) 7
+      → gives low top (addressAt s at) ≡ true
+  unfolding addressAt partAddress given
+  given-there n v p =
+      let u : 0 < oct s at = omega arith in
+      let x = take 7 (drop (at + 4) s) in
+      let z : (k : ℕ) → oct s (at + 3) ≤ k → k < 7 → oct x k ≡ 0 = λ k a b. getD-take 7 (drop (at + 4) s) k 0 b ∙ getD-drop (at + 4) s k 0 ∙ p k a b in
+      let c = cut-stays x (oct s (at + 3)) (cut-size 7 (at + 4) s (omega arith)) (v .len-range) z in
+      rw (lt-ltb 0 (oct s at) u) (part-gives low top true (oct s (at + 1) * 256 + oct s (at + 2)) (oct s (at + 3)) x (λ _. v) c)

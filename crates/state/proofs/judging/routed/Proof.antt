@@ -1,0 +1,40 @@
+use native.Mathlib.Omega.{arith}
+use denote.Ref.{now}
+use Rattle.octets.specs.Choice.{not-so}
+use Rattle.octets.specs.Reading.{Octets}
+use Rattle.state.proofs.SlotFair.{or-within, routed-open}
+use borrow.Author.Needs.{needs}
+use Rattle.state.proofs.judging.routed.Statement.{statement}
+use Rattle.state.proofs.judging.routed.Tie as tie
+
+-- the area is octets
+known : (st : tie.After-shared-slice-known) → Octets (now (st .before .args .o))
+known st i = omega (arith, st .shared-slice-known .given i)
+
+pub routed-spec : {M : Type 1} → statement M
+routed-spec =
+    tie.close
+    (tie.spec
+    (λ c κs. search needs)
+    (λ c. search needs)
+    (λ c e. not-so e)
+    (λ c. search needs)
+    (λ c. search needs)
+    (λ c e. not-so e)
+    (λ c. search needs)
+    (λ c. search needs)
+    (λ c. search needs)
+    (λ c. search needs)
+    (λ c e. not-so e)
+    (λ c. search needs)
+    (λ c κs. search needs)
+    (λ c. search needs)
+    (λ c κs. search needs)
+    (λ c e.
+    let p : tie.After-slot-place = search needs in
+    let st = p .before .before in
+    let g = c .before .before in
+    let b = or-within _ _ 1 (g .before .if3 .left) in
+    routed-open (now (st .args .o)) (st .args .i) (p .slot-place .result) (p .slot-place .ensures) (known (p .before)) (omega arith) (omega arith) (b .0) (b .1)
+    (g .given .ensures (c .before .if4 .taken)) (c .given2 .ensures e))
+    (λ c e. not-so e))
