@@ -9,7 +9,6 @@ use lib.ListN.{length, take, drop, length-append}
 use lib.Seq.{take-at, take-take, drop-drop, drop-append-add, getD-take, getD-drop, getD-append-add}
 use borrow.Author.Tests.{leb-true}
 use Rattle.octets.specs.Every.{octets-part}
-use Rattle.octets.specs.Numbers.{valueAt}
 use Rattle.octets.specs.Reading.{oct, Octets}
 use Rattle.octets.specs.Splice.{splice}
 use Rattle.npdu.specs.Address.{absent, AddressFits}
@@ -19,7 +18,9 @@ use Rattle.records.specs.Flag.{flag}
 use Rattle.records.proofs.Areas.{two-laid}
 use Rattle.records.proofs.Networks.{two-back}
 use Rattle.state.specs.Slot.{addressSize, numberOctets, addressOctets, addressAt}
+use Rattle.state.specs.Judging.{fourAt}
 use Rattle.state.proofs.Parts.{run, cut-run, cut-size, high-octet, low-octet, pair-below}
+use Rattle.state.proofs.Fours.{four-same}
 
 -- ---- a flag's octet is that flag, and an octet of at most 1 is its flag's
 pub flag-back : (b : Bool) → (ltb 0 (flag b) ≡ b) × (leb (flag b) 1 ≡ true)
@@ -121,24 +122,41 @@ module _ (s : List ℕ) (at m k : ℕ) (inside : k + addressSize ≤ m) where
       cut-within (k + 4) 7 m (drop at s) (omega arith) ∙ ap (take 7) (drop-drop (k + 4) at s) ∙ ap (λ (p : ℕ). take 7 (drop p s)) e in
       rw (f, octet-within 1 (lit< tt), octet-within 2 (lit< tt), octet-within 3 (lit< tt), c)
 
--- ---- the four octets behind an address's first, as one number, are its network number, its length and its first octet: one address has one number
-module _ (s : List ℕ) (p r : ℕ) (behind : r ≡ p + 1) where
-  first-octet : oct (addressAt s p .octets) 0 ≡ oct s (r + 3)
+-- ---- one address at two places has the same octets behind its first, and four of them are one number
+module _ (s : List ℕ) (os : Octets s) (p q : ℕ) (one : addressAt s p ≡ addressAt s q) where
+  network-same : oct s (p + 1) * 256 + oct s (p + 2) ≡ oct s (q + 1) * 256 + oct s (q + 2)
   unfolding addressAt
-  first-octet =
-      let e : p + 4 + 0 ≡ r + 3 = omega arith in
-      getD-take 7 (drop (p + 4) s) 0 0 (lit< tt) ∙ getD-drop (p + 4) s 0 0 ∙ ap (oct s) e
+  network-same = ap (λ (a : Address). a .network) one
 
-  behind-number : valueAt s r 4 ≡ addressAt s p .network * 65536 + addressAt s p .length * 256 + oct (addressAt s p .octets) 0
-  unfolding valueAt addressAt
-  behind-number =
-      let e₀ : r + 0 ≡ p + 1 = omega arith in
-      let e₁ : r + 1 ≡ p + 2 = omega arith in
-      let e₂ : r + 2 ≡ p + 3 = omega arith in
-      rw (first-octet, e₀, e₁, e₂) (omega arith)
+  length-same : oct s (p + 3) ≡ oct s (q + 3)
+  unfolding addressAt
+  length-same = ap (λ (a : Address). a .length) one
 
-pub one-number : (s : List ℕ) (p q r t : ℕ) → r ≡ p + 1 → t ≡ q + 1 → addressAt s p ≡ addressAt s q → valueAt s r 4 ≡ valueAt s t 4
-one-number s p q r t e d one = rw (behind-number s p r e, behind-number s q t d, one)
+  octets-same : take 7 (drop (p + 4) s) ≡ take 7 (drop (q + 4) s)
+  unfolding addressAt
+  octets-same = ap (λ (a : Address). a .octets) one
+
+  octet-same : (j : ℕ) → j < 7 → oct s (p + 4 + j) ≡ oct s (q + 4 + j)
+  octet-same j h =
+      sym (getD-take 7 (drop (p + 4) s) j 0 h ∙ getD-drop (p + 4) s j 0)
+      ∙ ap (λ (l : List ℕ). oct l j) octets-same ∙ getD-take 7 (drop (q + 4) s) j 0 h ∙ getD-drop (q + 4) s j 0
+
+  behind-same : (k : ℕ) → 1 ≤ k → k < addressSize → oct s (p + k) ≡ oct s (q + k)
+  behind-same zero l h = absurd (omega arith)
+  behind-same (suc zero) l h = let e = network-same in let a = os (p + 2) in let b = os (q + 2) in omega arith
+  behind-same (suc (suc zero)) l h = let e = network-same in let a = os (p + 2) in let b = os (q + 2) in omega arith
+  behind-same (suc (suc (suc zero))) l h = length-same
+  behind-same (suc (suc (suc (suc j)))) l h =
+      let a : p + suc (suc (suc (suc j))) ≡ p + 4 + j = omega arith in
+      let b : q + suc (suc (suc (suc j))) ≡ q + 4 + j = omega arith in
+      rw (a, b) (octet-same j (omega arith))
+
+  pub one-four : (m : ℕ) → 1 ≤ m → m + 4 ≤ addressSize → (a b : ℕ) → a ≡ p + m → b ≡ q + m → fourAt s a ≡ fourAt s b
+  one-four m l h a b e d =
+      four-same s a b (λ k n.
+      let x : a + k ≡ p + (m + k) = omega arith in
+      let y : b + k ≡ q + (m + k) = omega arith in
+      rw (x, y) (behind-same (m + k) (omega arith) (omega arith)))
 
 -- ---- its parts, laid one after the other
 pub address-laid : (area n : List ℕ) (a : Address) (at : ℕ) {l₁ l₂ : List ℕ} → at + addressSize ≤ length area → length (a .octets) ≡ 7 → n ≡ numberOctets a

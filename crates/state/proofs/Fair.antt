@@ -11,9 +11,10 @@ use Rattle.octets.specs.Choice.{pick, both, non, both-false, true-both, by-test
 use Rattle.octets.specs.Reading.{oct}
 use Rattle.frames.specs.Step.{soundOf}
 use Rattle.messages.specs.Slots.{room, above, isSome, lowest, openTo}
-use Rattle.messages.specs.Sound.{strange, twice, sound}
-use Rattle.rebuild.specs.View.{keys, sameKey, seen}
+use Rattle.messages.specs.Sound.{strange, twice, sound, passes}
+use Rattle.rebuild.specs.View.{keys, sameKey, seen, view}
 use Rattle.rebuild.specs.declared.Key.{Key}
+use Rattle.rebuild.specs.declared.Slots.{Slots}
 use Rattle.rebuild.proofs.Page.{key-laws}
 use Rattle.collector.specs.Calls.{slotCount}
 use Rattle.state.specs.declared.Silence.{Silence}
@@ -82,6 +83,15 @@ gather false e r G S F P q = refl
 -- the slots, each by itself and beside the others
 abbrev pub bothFair : List ℕ → Bool
 bothFair o = both (slotsFair o 0 slotCount) (pairsFair o 0 slotCount)
+
+-- lifted: g, whether their octets are slots', and r, what is said of the slots t by value
+module _ (o : List ℕ) (g : Bool) (e : g ≡ slotsGood o 0 slotCount) where
+  pub lifted-none : g ≡ false → false ≡ bothFair o
+  lifted-none f = rw (← e, f) at (slots-parts o 0 slotCount)
+
+  pub lifted-fair : g ≡ true → (t : Slots) → t ≡ stateAt o .slots → (r : Bool) → r ≡ passes keys slotCount (view t) → r ≡ bothFair o
+  unfolding stateAt
+  lifted-fair f t d r q = q ∙ ap (λ (u : Slots). passes keys slotCount (view u)) d ∙ (rw (← e, f) at (slots-parts o 0 slotCount))
 
 pub fair-parts : (o : List ℕ) → fairOf o ≡ both (linkFair o) (both (editionGood (editionAt o)) (bothFair o))
 unfolding fairOf stateGood stateAt linkFair

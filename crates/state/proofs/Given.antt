@@ -4,28 +4,22 @@ use native.Mathlib.Omega.{arith}
 use mathlib.Core.Path.{_≡_, refl, sym, _∙_}
 use mathlib.Core.Bool.{true, false}
 use mathlib.Core.List.{List}
+use lib.Bits.{bitOr}
 use lib.Dec.{eqb, ltb}
 use lib.ListN.{length, take, drop, length-drop, take-append-drop}
 use lib.Seq.{getD-take, getD-drop, take-all}
 use borrow.Author.Tests.{lt-ltb, ltb-true, ltb-false, eqb-true, eqb-false}
 use Rattle.octets.specs.Choice.{given, not-so, by-test}
-use Rattle.octets.specs.Numbers.{valueAt}
 use Rattle.octets.specs.Reading.{oct}
 use Rattle.npdu.specs.Address.{absent, partAddress, gives}
 use Rattle.npdu.specs.Layout.{zeros, cut}
 use Rattle.npdu.specs.Valid.{PartValid}
 use Rattle.npdu.proofs.AddressLaws.{part-gives}
 use Rattle.state.specs.Slot.{addressSize, addressAt}
+use Rattle.state.specs.Judging.{fourAt}
 use Rattle.state.proofs.Parts.{cut-run, cut-size}
+use Rattle.state.proofs.Fours.{or-zero, four-zeros}
 use Rattle.state.proofs.Address.{run-zeros, address-none}
-
--- ---- a number that is 0 has octets that are 0
-value-zeros : (s : List ℕ) (p n : ℕ) → valueAt s p n ≡ 0 → (k : ℕ) → p ≤ k → k < p + n → oct s k ≡ 0
-unfolding valueAt
-value-zeros s p zero e k a b = absurd (omega arith)
-value-zeros s p (suc n) e k a b =
-    let l : oct s (p + n) ≡ 0 = omega arith in
-    by-test (eqb k (p + n)) (λ t. rw (eqb-true k (p + n) t) l) (λ f. let d = eqb-false k (p + n) f in value-zeros s p n (omega arith) k a (omega arith))
 
 -- ---- the address octets past the length, up to number i, are 0
 abbrev pub Past : List ℕ → ℕ → ℕ → ℕ → Type 0
@@ -53,15 +47,23 @@ module _ (s : List ℕ) (at low top : ℕ) (there : at + addressSize ≤ length 
   unfolding partAddress given
   absent-gives = part-gives low top false 0 0 (zeros 7) (λ z. not-so z) refl
 
-  pub given-none : oct s at ≡ 0 → valueAt s (at + 1) 4 ≡ 0 → valueAt s (at + 5) 4 ≡ 0 → valueAt s (at + 9) 2 ≡ 0 → gives low top (addressAt s at) ≡ true
-  given-none f a b c = rw (address-none s at there each) absent-gives
+  -- its ten octets behind the first in three numbers, of which the last two overlap
+  pub given-none : oct s at ≡ 0 → (x y z : ℕ) → x ≡ fourAt s (at + 1) → y ≡ fourAt s (at + 5) → z ≡ fourAt s (at + 7) → bitOr (bitOr x y) z ≡ 0
+      → gives low top (addressAt s at) ≡ true
+  given-none f x y z ex ey ez e = rw (address-none s at there each) absent-gives
     where
+      u : (bitOr x y ≡ 0) × (z ≡ 0)
+      u = or-zero _ _ e
+
+      v : (x ≡ 0) × (y ≡ 0)
+      v = or-zero _ _ (u .0)
+
       each : (k : ℕ) → at ≤ k → k < at + addressSize → oct s k ≡ 0
       each k l h =
           by-test (eqb k at) (λ t. rw (eqb-true k at t) f) (λ n.
-          by-test (ltb k (at + 5)) (λ t. value-zeros s (at + 1) 4 a k (omega (arith, eqb-false k at n)) (omega (arith, ltb-true k (at + 5) t))) (λ m.
-          by-test (ltb k (at + 9)) (λ t. value-zeros s (at + 5) 4 b k (omega (arith, ltb-false k (at + 5) m)) (omega (arith, ltb-true k (at + 9) t)))
-          (λ o. value-zeros s (at + 9) 2 c k (omega (arith, ltb-false k (at + 9) o)) (omega arith))))
+          by-test (ltb k (at + 5)) (λ t. four-zeros s (at + 1) (sym ex ∙ v .0) k (omega (arith, eqb-false k at n)) (omega (arith, ltb-true k (at + 5) t))) (λ m.
+          by-test (ltb k (at + 9)) (λ t. four-zeros s (at + 5) (sym ey ∙ v .1) k (omega (arith, ltb-false k (at + 5) m)) (omega (arith, ltb-true k (at + 9) t)))
+          (λ o. four-zeros s (at + 7) (sym ez ∙ u .1) k (omega (arith, ltb-false k (at + 9) o)) (omega arith))))
 
   -- one that is there
   pub given-there : (oct s at ≡ 0 → ⊥) → PartValid (oct s (at + 1) * 256 + oct s (at + 2)) (oct s (at + 3)) low top → Past s at (oct s (at + 3)) 7

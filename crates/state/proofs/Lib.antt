@@ -1,4 +1,5 @@
 pub mod Parts
+pub mod Fours
 pub mod Link
 pub mod Address
 pub mod Slot

@@ -1,48 +1,24 @@
--- No two open slots of one key: quickly, of their octets where they stand, and lifted; a law for each way through the tests.
-use Prim.Native.Nat.{ℕ, zero, suc, _+_, _<_}
+-- No two open slots of one key, quickly, of their octets where they stand: a law for each way through the tests.
+use Prim.Native.Nat.{ℕ, zero, suc, _+_, _≤_, _<_}
 use native.Mathlib.Omega.{arith}
 use mathlib.Core.Path.{_≡_, refl, sym, ap, _∙_}
 use mathlib.Core.Bool.{Bool, true, false}
 use mathlib.Core.List.{List}
-use lib.Dec.{eqb, ltb}
-use borrow.Author.Tests.{lt-ltb, ne-eqb}
-use Rattle.octets.specs.Choice.{both, non, both-false, pick-same, by-test}
-use Rattle.octets.specs.Numbers.{valueAt}
-use Rattle.octets.specs.Reading.{oct}
+use lib.Dec.{lit≤}
+use Rattle.octets.specs.Choice.{both-false, true-both, pick-same, by-test}
+use Rattle.octets.specs.Reading.{oct, Octets}
 use Rattle.rebuild.specs.View.{sameKey}
 use Rattle.rebuild.specs.declared.Key.{Key}
-use Rattle.rebuild.specs.declared.Slot.{Slot}
 use Rattle.rebuild.proofs.Page.{key-laws}
+use Rattle.collector.specs.Calls.{slotCount}
 use Rattle.state.specs.Layout.{slotPlace}
 use Rattle.state.specs.Calls.{slotAt}
-use Rattle.state.specs.Judging.{oneKey, apart, apartFrom, alone}
-use Rattle.state.proofs.Parts.{both-on, both-off, both-last}
-use Rattle.state.proofs.Address.{one-number}
-use Rattle.state.proofs.SlotFair.{slot-used, slot-invoke, slot-from, slot-to}
+use Rattle.state.specs.Judging.{oneKey, apart, apartFrom, alone, pairsFair, fourAt}
+use Rattle.state.proofs.Fours.{four-same}
+use Rattle.state.proofs.Address.{one-four}
+use Rattle.state.proofs.SlotFair.{slot-used, slot-source, slot-destination, slot-kind, slot-invoke, slot-from, slot-to}
 
--- ---- the slots lifted
-pub one-lifted : (o : List ℕ) (i j : ℕ) (x y : Slot) (r : Bool) → x ≡ slotAt o i → y ≡ slotAt o j → r ≡ sameKey (x .key) (y .key) → r ≡ oneKey o i j
-unfolding oneKey
-one-lifted o i j x y r e d h = rw (← e, ← d) h
-
--- ---- slot j against slot i; k: whether they have one key
-free-only : (x : ℕ) → eqb x 0 ≡ non (both (ltb 0 x) true)
-free-only zero = refl
-free-only (suc x) = rw (ne-eqb (suc x) 0 (λ e. omega arith), lt-ltb 0 (suc x) (omega arith))
-
-module _ (o : List ℕ) (i j : ℕ) (k : Bool) (e : k ≡ oneKey o i j) where
-  pub apart-other : k ≡ false → true ≡ apart o i j
-  unfolding apart
-  apart-other f = rw (← e, f, both-false (slotAt o j .used))
-
-  pub apart-free : (at : ℕ) → at ≡ slotPlace j → k ≡ true → eqb (oct o at) 0 ≡ apart o i j
-  unfolding apart
-  apart-free at place t = rw (← e, t, slot-used o j at place) (free-only (oct o at))
-
--- for `search (needs, apart-ways)`
-pub ruleset apart-ways = (apart-other, apart-free)
-
--- ---- the quick tests: another invoke ID is another key, and so is another number behind the first octet of an address; a slot that is not open is open with none
+-- ---- slot j against slot i: another number in any place of a key's parts is another key; a slot that is not open is open with none
 other-apart : (o : List ℕ) (i j : ℕ) → (slotAt o i .key ≡ slotAt o j .key → ⊥) → apart o i j ≡ true
 unfolding apart oneKey
 other-apart o i j n =
@@ -51,47 +27,85 @@ other-apart o i j n =
     let f : sameKey x y ≡ false = by-test (sameKey x y) (λ t. absurd (n (key-laws .only x y t))) (λ f. f) in
     rw (f, both-false (slotAt o j .used))
 
-module _ (o : List ℕ) (i j a b : ℕ) (p : a ≡ slotPlace i) (q : b ≡ slotPlace j) where
-  pub invoke-apart : (oct o (a + 4) ≡ oct o (b + 4) → ⊥) → apart o i j ≡ true
-  invoke-apart n = other-apart o i j (λ e. n (sym (slot-invoke o i a p) ∙ ap (λ (k : Key). k .invoke) e ∙ slot-invoke o j b q))
+-- x and y: the numbers
+module _ (o : List ℕ) (i j a b : ℕ) (p : a ≡ slotPlace i) (q : b ≡ slotPlace j) (x y : ℕ) (n : x ≡ y → ⊥) where
+  -- the first four parts
+  front-octets : slotAt o i .key ≡ slotAt o j .key → (k : ℕ) → k < 4 → oct o (a + 1 + k) ≡ oct o (b + 1 + k)
+  front-octets e zero h =
+      let u : a + 1 + 0 ≡ a + 1 = omega arith in
+      let v : b + 1 + 0 ≡ b + 1 = omega arith in
+      rw (u, v) (sym (slot-source o i a p) ∙ ap (λ (k : Key). k .source) e ∙ slot-source o j b q)
+  front-octets e (suc zero) h =
+      let u : a + 1 + 1 ≡ a + 2 = omega arith in
+      let v : b + 1 + 1 ≡ b + 2 = omega arith in
+      rw (u, v) (sym (slot-destination o i a p) ∙ ap (λ (k : Key). k .destination) e ∙ slot-destination o j b q)
+  front-octets e (suc (suc zero)) h =
+      let u : a + 1 + 2 ≡ a + 3 = omega arith in
+      let v : b + 1 + 2 ≡ b + 3 = omega arith in
+      rw (u, v) (sym (slot-kind o i a p) ∙ ap (λ (k : Key). k .kind) e ∙ slot-kind o j b q)
+  front-octets e (suc (suc (suc zero))) h =
+      let u : a + 1 + 3 ≡ a + 4 = omega arith in
+      let v : b + 1 + 3 ≡ b + 4 = omega arith in
+      rw (u, v) (sym (slot-invoke o i a p) ∙ ap (λ (k : Key). k .invoke) e ∙ slot-invoke o j b q)
+  front-octets e (suc (suc (suc (suc k)))) h = absurd (omega arith)
 
-  -- x and y: the numbers
-  pub from-apart : (x y : ℕ) → x ≡ valueAt o (a + 10) 4 → y ≡ valueAt o (b + 10) 4 → (x ≡ y → ⊥) → apart o i j ≡ true
-  from-apart x y u v n =
-      other-apart o i j (λ e.
-      let one = one-number o (a + 9) (b + 9) (a + 10) (b + 10) (omega arith) (omega arith) (sym (slot-from o i a p) ∙ ap (λ (k : Key). k .from) e ∙ slot-from o j b q) in
-      n (cc))
+  pub front-apart : x ≡ fourAt o (a + 1) → y ≡ fourAt o (b + 1) → apart o i j ≡ true
+  front-apart u v = other-apart o i j (λ e. let one = four-same o (a + 1) (b + 1) (front-octets e) in n (cc))
 
-  pub to-apart : (x y : ℕ) → x ≡ valueAt o (a + 21) 4 → y ≡ valueAt o (b + 21) 4 → (x ≡ y → ⊥) → apart o i j ≡ true
-  to-apart x y u v n =
-      other-apart o i j (λ e.
-      let one = one-number o (a + 20) (b + 20) (a + 21) (b + 21) (omega arith) (omega arith) (sym (slot-to o i a p) ∙ ap (λ (k : Key). k .to) e ∙ slot-to o j b q) in
-      n (cc))
+  -- either address, from its octet m on
+  module _ (os : Octets o) where
+    from-apart : (m : ℕ) → 1 ≤ m → m + 4 ≤ 11 → (c d : ℕ) → c ≡ a + 9 + m → d ≡ b + 9 + m → x ≡ fourAt o c → y ≡ fourAt o d → apart o i j ≡ true
+    from-apart m l h c d s t u v =
+        other-apart o i j (λ e.
+        let one = one-four o os (a + 9) (b + 9) (sym (slot-from o i a p) ∙ ap (λ (k : Key). k .from) e ∙ slot-from o j b q) m l h c d s t in
+        n (cc))
+
+    to-apart : (m : ℕ) → 1 ≤ m → m + 4 ≤ 11 → (c d : ℕ) → c ≡ a + 20 + m → d ≡ b + 20 + m → x ≡ fourAt o c → y ≡ fourAt o d → apart o i j ≡ true
+    to-apart m l h c d s t u v =
+        other-apart o i j (λ e.
+        let one = one-four o os (a + 20) (b + 20) (sym (slot-to o i a p) ∙ ap (λ (k : Key). k .to) e ∙ slot-to o j b q) m l h c d s t in
+        n (cc))
+
+    pub apart-10 : x ≡ fourAt o (a + 10) → y ≡ fourAt o (b + 10) → apart o i j ≡ true
+    apart-10 = from-apart 1 (lit≤ tt) (lit≤ tt) (a + 10) (b + 10) (omega arith) (omega arith)
+
+    pub apart-14 : x ≡ fourAt o (a + 14) → y ≡ fourAt o (b + 14) → apart o i j ≡ true
+    apart-14 = from-apart 5 (lit≤ tt) (lit≤ tt) (a + 14) (b + 14) (omega arith) (omega arith)
+
+    pub apart-21 : x ≡ fourAt o (a + 21) → y ≡ fourAt o (b + 21) → apart o i j ≡ true
+    apart-21 = to-apart 1 (lit≤ tt) (lit≤ tt) (a + 21) (b + 21) (omega arith) (omega arith)
+
+    pub apart-25 : x ≡ fourAt o (a + 25) → y ≡ fourAt o (b + 25) → apart o i j ≡ true
+    apart-25 = to-apart 5 (lit≤ tt) (lit≤ tt) (a + 25) (b + 25) (omega arith) (omega arith)
 
 pub free-apart : (o : List ℕ) (i j b : ℕ) → b ≡ slotPlace j → oct o b ≡ 0 → apart o i j ≡ true
 unfolding apart
 free-apart o i j b q z = rw (slot-used o j b q, z)
 
 -- for `search (needs, alike-ways)`
-pub ruleset alike-ways = (invoke-apart, from-apart, to-apart, free-apart)
+pub ruleset alike-ways = (front-apart, apart-10, apart-14, apart-21, apart-25, free-apart)
 
--- ---- slot i, which stands at a place, against n behind it: it is free, or r is what they say one by one
-module _ (o : List ℕ) (i at n : ℕ) (place : at ≡ slotPlace i) where
-  pub alone-free : oct o at ≡ 0 → true ≡ alone o i n
+-- ---- six pairs are all of them
+module _ (o : List ℕ) where
+  has-alone : (i n : ℕ) → apartFrom o i (suc i) n ≡ true → alone o i n ≡ true
   unfolding alone
-  alone-free e = rw (slot-used o i at place, e)
+  has-alone i n e = rw e (pick-same (slotAt o i .used) true)
 
-  pub alone-open : (r : Bool) → (oct o at ≡ 0 → ⊥) → r ≡ apartFrom o i (suc i) n → r ≡ alone o i n
-  unfolding alone
-  alone-open r f e = let u : 0 < oct o at = omega arith in rw (slot-used o i at place, lt-ltb 0 (oct o at) u) e
+  pub pairs-apart : apart o 0 1 ≡ true → apart o 0 2 ≡ true → apart o 0 3 ≡ true → apart o 1 2 ≡ true → apart o 1 3 ≡ true → apart o 2 3 ≡ true → pairsFair o 0 slotCount ≡ true
+  pairs-apart a b c d e f =
+      true-both _ _ (has-alone 0 3 (true-both _ _ a (true-both _ _ b (true-both _ _ c refl))))
+      (true-both _ _ (has-alone 1 2 (true-both _ _ d (true-both _ _ e refl)))
+      (true-both _ _ (has-alone 2 1 (true-both _ _ f refl))
+      (true-both _ _ (has-alone 3 0 refl) refl)))
 
--- ---- the last slot has none behind it
-last-alone : (o : List ℕ) (i : ℕ) → true ≡ both (alone o i 0) true
-unfolding alone
-last-alone o i = rw (pick-same (slotAt o i .used) true)
-
-pub pairs-last : (o : List ℕ) (i : ℕ) (r : Bool) → r ≡ alone o i 1 → r ≡ both (alone o i 1) (both (alone o (suc i) 0) true)
-pairs-last o i r e = rw (← last-alone o (suc i)) (both-last _ _ e)
-
--- for `search (needs, pair-ways)`
-pub ruleset pair-ways = (both-on, both-off, pairs-last)
+  -- w, x, y, z: the first four parts of their keys as numbers, no two the same
+  pub all-unlike : (w x y z : ℕ) → w ≡ fourAt o (slotPlace 0 + 1) → x ≡ fourAt o (slotPlace 1 + 1) → y ≡ fourAt o (slotPlace 2 + 1) → z ≡ fourAt o (slotPlace 3 + 1)
+      → (w ≡ x → ⊥) → (w ≡ y → ⊥) → (w ≡ z → ⊥) → (x ≡ y → ⊥) → (x ≡ z → ⊥) → (y ≡ z → ⊥) → pairsFair o 0 slotCount ≡ true
+  all-unlike w x y z a b c d p q r s t u =
+      pairs-apart
+      (front-apart o 0 1 (slotPlace 0) (slotPlace 1) refl refl w x p a b)
+      (front-apart o 0 2 (slotPlace 0) (slotPlace 2) refl refl w y q a c)
+      (front-apart o 0 3 (slotPlace 0) (slotPlace 3) refl refl w z r a d)
+      (front-apart o 1 2 (slotPlace 1) (slotPlace 2) refl refl x y s b c)
+      (front-apart o 1 3 (slotPlace 1) (slotPlace 3) refl refl x z t b d)
+      (front-apart o 2 3 (slotPlace 2) (slotPlace 3) refl refl y z u c d)

@@ -1,21 +1,20 @@
--- 59 of a slot by itself, asked of its octets where they stand, and of the slot lifted: a law for each way through the tests.
+-- 59 of a slot by itself, asked of its octets where they stand: what the quick tests say of it when they say yes.
 use Prim.Native.Nat.{ℕ, zero, suc, _+_, _*_, _≤_, _<_}
 use native.Mathlib.Omega.{arith}
 use mathlib.Core.Path.{_≡_, refl, ap, _∙_}
-use mathlib.Core.Bool.{Bool, true, false}
+use mathlib.Core.Bool.{true, false}
 use mathlib.Core.List.{List}
-use lib.Bits.{bitOr, or-add-and, and-le-l, and-le-r}
-use lib.Dec.{eqb, ltb, leb, lit<, lit≤}
+use lib.Bits.{bitOr}
+use lib.Dec.{ltb, lit<, lit≤}
 use lib.ListN.{length, drop}
 use lib.Seq.{getD-take, getD-drop}
-use borrow.Author.Tests.{le-leb, eqb-true, eqb-false}
-use Rattle.octets.specs.Choice.{non, both-false, true-both, by-test}
+use borrow.Author.Tests.{le-leb}
+use Rattle.octets.specs.Choice.{non, both-false, true-both}
 use Rattle.octets.specs.Reading.{oct, Octets}
 use Rattle.npdu.specs.Address.{absent, gives, givesSource, givesDestination}
 use Rattle.messages.specs.Slots.{room}
 use Rattle.messages.specs.Sound.{strange}
 use Rattle.rebuild.specs.View.{keys, givenKey, seen}
-use Rattle.rebuild.specs.declared.Slot.{Slot}
 use Rattle.rebuild.proofs.Given.{unaddressed-given}
 use Rattle.collector.specs.Calls.{slotCount}
 use Rattle.state.specs.Slot.{addressAt, frontSize, slotSize, slotGood, slotOf}
@@ -23,6 +22,7 @@ use Rattle.state.specs.Layout.{slotPlace, stateSize, slotPart}
 use Rattle.state.specs.Calls.{goodAt, slotAt}
 use Rattle.state.specs.Judging.{slotFair, slotsFair, alone, pairsFair, Over, NoAddress, AllFree}
 use Rattle.state.proofs.Parts.{cut-size}
+use Rattle.state.proofs.Fours.{or-left, or-right}
 use Rattle.state.proofs.Address.{address-none, address-within}
 
 -- slot i, which stands at a place
@@ -37,6 +37,18 @@ module _ (o : List ℕ) (i at : ℕ) (place : at ≡ slotPlace i) where
   pub slot-used : slotAt o i .used ≡ ltb 0 (oct o at)
   unfolding slotAt slotOf
   slot-used = rw slot-first
+
+  pub slot-source : slotAt o i .key .source ≡ oct o (at + 1)
+  unfolding slotAt slotOf
+  slot-source = slot-octet 1 (lit< tt)
+
+  pub slot-destination : slotAt o i .key .destination ≡ oct o (at + 2)
+  unfolding slotAt slotOf
+  slot-destination = slot-octet 2 (lit< tt)
+
+  pub slot-kind : slotAt o i .key .kind ≡ oct o (at + 3)
+  unfolding slotAt slotOf
+  slot-kind = slot-octet 3 (lit< tt)
 
   pub slot-invoke : slotAt o i .key .invoke ≡ oct o (at + 4)
   unfolding slotAt slotOf
@@ -74,7 +86,7 @@ module _ (o : List ℕ) (i at : ℕ) (place : at ≡ slotPlace i) where
         let s : strange keys (seen (slotAt o i)) ≡ false = rw (slot-used, f) (both-false (non (givenKey (slotAt o i .key)))) in
         fair-by (slot-good (omega arith) a b) s
 
-    -- open, without addresses
+    -- without addresses
     module _ (size : length o ≡ stateSize) (below : i < slotCount) (none : NoAddress o at) where
       part-long : length (slotPart o i) ≡ slotSize
       part-long = cut-size slotSize (slotPlace i) o (omega arith)
@@ -97,42 +109,15 @@ module _ (o : List ℕ) (i at : ℕ) (place : at ≡ slotPlace i) where
           let s : strange keys (seen (slotAt o i)) ≡ false = rw (unaddressed-given (slotAt o i .key) from-none to-none) in
           fair-by (slot-good u (omega arith) (omega arith)) s
 
-    -- open, with addresses that a header gives
-    pub routed-open : oct o at ≡ 1 → oct o (at + 9) ≤ 1 → oct o (at + 20) ≤ 1 → gives 1 65534 (addressAt o (at + 9)) ≡ true → gives 0 65535 (addressAt o (at + 20)) ≡ true
+    -- with addresses that a header gives
+    pub routed-open : oct o at ≤ 1 → oct o (at + 9) ≤ 1 → oct o (at + 20) ≤ 1 → gives 1 65534 (addressAt o (at + 9)) ≡ true → gives 0 65535 (addressAt o (at + 20)) ≡ true
         → slotFair o i ≡ true
     unfolding givenKey givesSource givesDestination
     routed-open u a b f t =
         let s : strange keys (seen (slotAt o i)) ≡ false = rw (slot-from, slot-to, f, t) in
-        fair-by (slot-good (omega arith) a b) s
+        fair-by (slot-good u a b) s
 
--- ---- the slot lifted; g: whether its octets are a slot's, s: whether it is open with a key that no header gives
-module _ (o : List ℕ) (i : ℕ) (g : Bool) (e : g ≡ goodAt o i) where
-  pub lifted-none : g ≡ false → false ≡ slotFair o i
-  unfolding slotFair
-  lifted-none f = rw (← e, f)
-
-  module _ (t : g ≡ true) (x : Slot) (d : x ≡ slotAt o i) (s : Bool) (q : s ≡ strange keys (seen x)) where
-    pub lifted-strange : s ≡ true → false ≡ slotFair o i
-    unfolding slotFair
-    lifted-strange u = rw (← e, t, ← d, ← q, u)
-
-    pub lifted-holds : s ≡ false → leb (x .held) room ≡ slotFair o i
-    unfolding slotFair
-    lifted-holds u = rw (← e, t, ← d, ← q, u)
-
--- for `search (needs, lifted-ways)`
-pub ruleset lifted-ways = (lifted-none, lifted-strange, lifted-holds)
-
--- ---- octets one over the other: none is above the outcome
-pub or-left : (a b : ℕ) → a ≤ bitOr a b
-or-left a b = let e = or-add-and a b in let h = and-le-r a b in omega arith
-
-pub or-right : (a b : ℕ) → b ≤ bitOr a b
-or-right a b = let e = or-add-and a b in let h = and-le-l a b in omega arith
-
-pub or-within : (a b r : ℕ) → bitOr a b ≤ r → (a ≤ r) × (b ≤ r)
-or-within a b r h = (omega (arith, or-left a b), omega (arith, or-right a b))
-
+-- ---- octet k of the four slots, one over the other: none is above the outcome
 over-one : (o : List ℕ) (k r : ℕ) → oct o (slotPlace 0 + k) ≤ r → oct o (slotPlace 1 + k) ≤ r → oct o (slotPlace 2 + k) ≤ r → oct o (slotPlace 3 + k) ≤ r → Over o k r
 over-one o k r a b c d zero h = a
 over-one o k r a b c d (suc zero) h = b
@@ -154,19 +139,29 @@ over-four o k i h =
     (or-right (bitOr (bitOr a b) c) d)
     i h
 
--- ---- the octets of a slot's addresses, one over the other, up to number i: with 0 each is 0
-abbrev pub Zeros : List ℕ → ℕ → ℕ → Type 0
-Zeros o at i = (k : ℕ) → frontSize ≤ k → k < i → oct o (at + k) ≡ 0
+-- ---- no slot has an address: a and b are the octets 0 and 7 of the four, one over the other
+module _ (o : List ℕ) (a b : ℕ) (os : Octets o) (size : length o ≡ stateSize) (flags : Over o 0 a) (one : a ≤ 1) (held : Over o 7 b) (small : b ≤ 63)
+    (none : (i : ℕ) → i < slotCount → NoAddress o (slotPlace i)) where
+  plain-each : (i n : ℕ) → i + n ≤ slotCount → slotsFair o i n ≡ true
+  plain-each i zero h = refl
+  plain-each i (suc n) h =
+      let l : i < slotCount = omega arith in
+      let z : slotPlace i + 0 ≡ slotPlace i = omega arith in
+      let f : oct o (slotPlace i) ≤ a = rw z at (flags i l) in
+      let m = held i l in
+      true-both _ _ (plain-open o i (slotPlace i) refl os (omega arith) size l (none i l) (omega arith)) (plain-each (suc i) n (omega arith))
 
-pub zeros-none : (o : List ℕ) (at : ℕ) → Zeros o at frontSize
-zeros-none o at k a b = absurd (omega arith)
+  pub all-plain : slotsFair o 0 slotCount ≡ true
+  all-plain = plain-each 0 slotCount (omega arith)
 
-pub zeros-more : (o : List ℕ) (at i v : ℕ) → (v ≡ 0 → Zeros o at i) → bitOr v (oct o (at + i)) ≡ 0 → Zeros o at (i + 1)
-zeros-more o at i v z e k a b =
-    let l = or-left v (oct o (at + i)) in
-    let r = or-right v (oct o (at + i)) in
-    let x : oct o (at + i) ≡ 0 = omega arith in
-    by-test (eqb k i) (λ t. rw (eqb-true k i t) x) (λ f. let n = eqb-false k i f in z (omega arith) k a (omega arith))
+-- four slots, one by one
+pub none-four : (o : List ℕ) → NoAddress o (slotPlace 0) → NoAddress o (slotPlace 1) → NoAddress o (slotPlace 2) → NoAddress o (slotPlace 3)
+    → (i : ℕ) → i < slotCount → NoAddress o (slotPlace i)
+none-four o a b c d zero h = a
+none-four o a b c d (suc zero) h = b
+none-four o a b c d (suc (suc zero)) h = c
+none-four o a b c d (suc (suc (suc zero))) h = d
+none-four o a b c d (suc (suc (suc (suc i)))) h = absurd (omega arith)
 
 -- ---- all four slots free: a, b, c, d are their octets 0, 9, 20 and 7, one over the other
 module _ (o : List ℕ) (a b c d : ℕ) (os : Octets o) (free : Over o 0 a) (none : a ≡ 0) (from : Over o 9 b) (one : b ≤ 1) (to : Over o 20 c) (two : c ≤ 1)

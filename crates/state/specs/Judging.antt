@@ -1,5 +1,5 @@
 -- What 59 asks of a state's octets, part by part: of the link, of two slots, of a slot by itself. With the edition's octet it is `fairOf` (proofs/Fair).
-use Prim.Native.Nat.{ℕ, zero, suc, _+_, _≤_, _<_}
+use Prim.Native.Nat.{ℕ, zero, suc, _+_, _*_, _≤_, _<_}
 use mathlib.Core.Path.{_≡_}
 use mathlib.Core.Bool.{Bool, true}
 use mathlib.Core.List.{List}
@@ -56,6 +56,10 @@ pairsFair o i (suc n) = both (alone o i n) (pairsFair o (suc i) n)
 -- octet k of no slot is above r
 abbrev pub Over : List ℕ → ℕ → ℕ → Type 0
 Over o k r = (i : ℕ) → i < slotCount → oct o (slotPlace i + k) ≤ r
+
+-- four octets from a place on as one number, the first of them lowest
+unfoldable pub fourAt : List ℕ → ℕ → ℕ
+fourAt o at = oct o at + oct o (at + 1) * 256 + oct o (at + 2) * 65536 + oct o (at + 3) * 16777216
 
 -- the slot at a place has no address: the octets behind its first nine are 0
 abbrev pub NoAddress : List ℕ → ℕ → Type 0

@@ -3,17 +3,17 @@ use crate::SLOT;
 use crate::SLOTS;
 use crate::loading;
 use crate::slot_place;
-use rebuild::search;
+use crate::slots_at;
 ghost use mathlib.Core.Path.{_≡_};
 ghost use mathlib.Core.Bool.{true, false};
-ghost use Prim.Native.Nat.{_+_, _≤_, _<_};
+ghost use Prim.Native.Nat.{_+_, _*_, _≤_, _<_};
 ghost use lib.ListN.{length};
 ghost use Rattle.collector.specs.Calls.{slotCount};
 ghost use Rattle.octets.specs.Choice.{both};
 ghost use Rattle.npdu.specs.Address.{gives};
 ghost use Rattle.state.specs.Slot.{addressSize, addressAt, slotSize};
 ghost use Rattle.state.specs.Layout.{stateSize};
-ghost use Rattle.state.specs.Judging.{linkFair, slotFair, slotsFair, oneKey, apart, alone, pairsFair, Over, NoAddress, AllFree};
+ghost use Rattle.state.specs.Judging.{linkFair, slotFair, slotsFair, apart, pairsFair, Over, fourAt, NoAddress, AllFree};
 
 // The link: a phase, a count that it can have, and something left to come, in data with a length of 1 to 501.
 pub fn link_fair(o: &[u8]) -> bool
@@ -70,36 +70,41 @@ pub fn all_free(o: &[u8]) -> bool
     over(o, 7) < 64
 }
 
-// Whether the slot at a place has no address: its last 22 octets, one over the other, are 0.
-fn no_address(o: &[u8], at: usize) -> bool
-    requires { ⌜ at + slotSize ≤ length (now o) ⌝ }
-    ensures { λ r. ⌜ (r ≡ true → NoAddress (now (o .entry)) at) ⌝ }
+// Four octets as one number, the first of them lowest.
+fn number(a: u8, b: u8, c: u8, d: u8) -> u32
+    ensures { λ r. ⌜ r ≡ a + b * 256 + c * 65536 + d * 16777216 ⌝ }
 {
-    let mut v: u8 = 0;
-    let mut i: usize = 9;
-    while i < 31 {
-        v = v | o[at + i];
-        i += 1;
-    }
-    v == 0
+    (a as u32) + (b as u32) * 256 + (c as u32) * 65536 + (d as u32) * 16777216
 }
 
-// Quick, and enough: slot i holds less than 16,384, and is free with presence octets of 0 or 1, or open without addresses.
-fn plain(o: &[u8], i: usize) -> bool
-    requires { ⌜ (length (now o) ≡ stateSize) × (i < slotCount) ⌝ }
-    ensures { λ r. ⌜ (r ≡ true → slotFair (now (o .entry)) i ≡ true) ⌝ }
+// Four octets from a place on as one number.
+fn four(o: &[u8], at: usize) -> u32
+    requires { ⌜ at + 4 ≤ length (now o) ⌝ }
+    ensures { λ r. ⌜ r ≡ fourAt (now (o .entry)) at ⌝ }
 {
-    let at = slot_place(i);
-    if 63 < o[at + 7] {
+    number(o[at], o[at + 1], o[at + 2], o[at + 3])
+}
+
+// The addresses of the slot at a place, four octets over four: 0 where it has none.
+fn addressed(o: &[u8], at: usize) -> u32
+    requires { ⌜ at + slotSize ≤ length (now o) ⌝ }
+    ensures { λ r. ⌜ (r ≡ 0 → NoAddress (now (o .entry)) at) ⌝ }
+{
+    four(o, at + 9) | four(o, at + 13) | four(o, at + 17) | four(o, at + 21) | four(o, at + 25) | four(o, at + 27)
+}
+
+// Quick, and enough: no slot has an address, all hold less than 16,384, and each is open or free.
+fn all_plain(o: &[u8]) -> bool
+    requires { ⌜ length (now o) ≡ stateSize ⌝ }
+    ensures { λ r. ⌜ (r ≡ true → slotsFair (now (o .entry)) 0 slotCount ≡ true) ⌝ }
+{
+    if 1 < over(o, 0) {
         return false;
     }
-    if o[at] == 0 {
-        return (o[at + 9] | o[at + 20]) <= 1;
-    }
-    if 1 < o[at] {
+    if 63 < over(o, 7) {
         return false;
     }
-    no_address(o, at)
+    (addressed(o, SLOTS) | addressed(o, SLOTS + SLOT) | addressed(o, SLOTS + SLOT * 2) | addressed(o, SLOTS + SLOT * 3)) == 0
 }
 
 // Quick, and enough: the eleven octets at a place are an address that a part with this least length and this greatest network number gives.
@@ -108,13 +113,7 @@ fn given(o: &[u8], at: usize, low: u8, top: u16) -> bool
     ensures { λ r. ⌜ (r ≡ true → gives low top (addressAt (now (o .entry)) at) ≡ true) ⌝ }
 {
     if o[at] == 0 {
-        if octets::value(o, at + 1, 4) != 0 {
-            return false;
-        }
-        if octets::value(o, at + 5, 4) != 0 {
-            return false;
-        }
-        return octets::value(o, at + 9, 2) == 0;
+        return (four(o, at + 1) | four(o, at + 5) | four(o, at + 7)) == 0;
     }
     let net = octets::pair(o[at + 1], o[at + 2]);
     if net == 0 {
@@ -140,20 +139,20 @@ fn given(o: &[u8], at: usize, low: u8, top: u16) -> bool
     true
 }
 
-// Quick, and enough: slot i is open, holds less than 16,384, and a header gives its addresses.
+// Quick, and enough: slot i holds less than 16,384, its flags are 0 or 1, and it is free or a header gives its addresses.
 fn routed(o: &[u8], i: usize) -> bool
     requires { ⌜ (length (now o) ≡ stateSize) × (i < slotCount) ⌝ }
     ensures { λ r. ⌜ (r ≡ true → slotFair (now (o .entry)) i ≡ true) ⌝ }
 {
     let at = slot_place(i);
-    if o[at] != 1 {
-        return false;
-    }
     if 63 < o[at + 7] {
         return false;
     }
-    if 1 < (o[at + 9] | o[at + 20]) {
+    if 1 < (o[at] | o[at + 9] | o[at + 20]) {
         return false;
+    }
+    if o[at] == 0 {
+        return true;
     }
     if given(o, at + 9, 1, 65534) {
         return given(o, at + 20, 0, 65535);
@@ -161,175 +160,130 @@ fn routed(o: &[u8], i: usize) -> bool
     false
 }
 
-// Slot i by itself, lifted: its presence octets, the octets that it holds, and, if it is open, whether a header gives its addresses.
-fn slot_fair(o: &[u8], i: usize) -> bool
-    requires { ⌜ (length (now o) ≡ stateSize) × (i < slotCount) ⌝ }
-    ensures { λ r. ⌜ r ≡ slotFair (now (o .entry)) i ⌝ }
+// Quick, and enough: each slot by itself.
+fn each_quick(o: &[u8]) -> bool
+    requires { ⌜ length (now o) ≡ stateSize ⌝ }
+    ensures { λ r. ⌜ (r ≡ true → slotsFair (now (o .entry)) 0 slotCount ≡ true) ⌝ }
 {
-    if loading::good_at(o, i) {
-        let x = loading::slot_at(o, i);
-        if search::strange(x) {
-            return false;
+    if all_plain(o) {
+        return true;
+    }
+    if routed(o, 0) {
+        if routed(o, 1) {
+            if routed(o, 2) {
+                return routed(o, 3);
+            }
         }
-        return x.held <= 16384;
     }
     false
 }
 
-// Each slot by itself.
-fn each_fair(o: &[u8]) -> bool
-    requires { ⌜ length (now o) ≡ stateSize ⌝ }
-    ensures { λ r. ⌜ r ≡ slotsFair (now (o .entry)) 0 slotCount ⌝ }
-{
-    if !plain(o, 0) {
-        if !routed(o, 0) {
-            if !slot_fair(o, 0) {
-                return false;
-            }
-        }
-    }
-    if !plain(o, 1) {
-        if !routed(o, 1) {
-            if !slot_fair(o, 1) {
-                return false;
-            }
-        }
-    }
-    if !plain(o, 2) {
-        if !routed(o, 2) {
-            if !slot_fair(o, 2) {
-                return false;
-            }
-        }
-    }
-    if plain(o, 3) {
-        return true;
-    }
-    if routed(o, 3) {
-        return true;
-    }
-    slot_fair(o, 3)
-}
-
-// Whether slot j is open and has what keys differ in most of slot i: the invoke ID, and of either address the network number, the length and the first octet.
+// Whether slot j is open and has what keys differ in most of slot i: the first four parts, and of either address the network number, the length and five octets.
 fn alike(o: &[u8], i: usize, j: usize) -> bool
     requires { ⌜ (length (now o) ≡ stateSize) × (i < slotCount) × (j < slotCount) ⌝ }
     ensures { λ r. ⌜ (r ≡ false → apart (now (o .entry)) i j ≡ true) ⌝ }
 {
     let a = slot_place(i);
     let b = slot_place(j);
-    if o[a + 4] != o[b + 4] {
+    if four(o, a + 1) != four(o, b + 1) {
         return false;
     }
     if o[b] == 0 {
         return false;
     }
-    if octets::value(o, a + 10, 4) != octets::value(o, b + 10, 4) {
+    if four(o, a + 10) != four(o, b + 10) {
         return false;
     }
-    octets::value(o, a + 21, 4) == octets::value(o, b + 21, 4)
-}
-
-// Whether two slots have one key.
-fn same_key(o: &[u8], i: usize, j: usize) -> bool
-    requires { ⌜ (length (now o) ≡ stateSize) × (i < slotCount) × (j < slotCount) ⌝ }
-    ensures { λ r. ⌜ r ≡ oneKey (now (o .entry)) i j ⌝ }
-{
-    let x = loading::slot_at(o, i);
-    let y = loading::slot_at(o, j);
-    let a = x.key;
-    let b = y.key;
-    search::same_key(a, b)
-}
-
-// Whether slot j, if open, has another key than slot i.
-fn apart(o: &[u8], i: usize, j: usize) -> bool
-    requires { ⌜ (length (now o) ≡ stateSize) × (i < slotCount) × (j < slotCount) ⌝ }
-    ensures { λ r. ⌜ r ≡ apart (now (o .entry)) i j ⌝ }
-{
-    if same_key(o, i, j) {
-        return o[slot_place(j)] == 0;
+    if four(o, a + 14) != four(o, b + 14) {
+        return false;
     }
-    true
+    if four(o, a + 21) != four(o, b + 21) {
+        return false;
+    }
+    four(o, a + 25) == four(o, b + 25)
 }
 
-// Slot 0, if open, and those behind it.
-fn first_fair(o: &[u8]) -> bool
+// Quick, and enough: no two slots, open or not, have the first four parts of one key.
+fn all_unlike(o: &[u8]) -> bool
     requires { ⌜ length (now o) ≡ stateSize ⌝ }
-    ensures { λ r. ⌜ r ≡ alone (now (o .entry)) 0 3 ⌝ }
+    ensures { λ r. ⌜ (r ≡ true → pairsFair (now (o .entry)) 0 slotCount ≡ true) ⌝ }
 {
-    if o[slot_place(0)] == 0 {
+    let a = four(o, SLOTS + 1);
+    let b = four(o, SLOTS + SLOT + 1);
+    let c = four(o, SLOTS + SLOT * 2 + 1);
+    let d = four(o, SLOTS + SLOT * 3 + 1);
+    if a == b {
+        return false;
+    }
+    if a == c {
+        return false;
+    }
+    if a == d {
+        return false;
+    }
+    if b == c {
+        return false;
+    }
+    if b == d {
+        return false;
+    }
+    c != d
+}
+
+// Quick: whether some slot is like one before it.
+fn any_alike(o: &[u8]) -> bool
+    requires { ⌜ length (now o) ≡ stateSize ⌝ }
+    ensures { λ r. ⌜ (r ≡ false → pairsFair (now (o .entry)) 0 slotCount ≡ true) ⌝ }
+{
+    if alike(o, 0, 1) {
         return true;
     }
-    if alike(o, 0, 1) {
-        if !apart(o, 0, 1) {
-            return false;
-        }
-    }
     if alike(o, 0, 2) {
-        if !apart(o, 0, 2) {
-            return false;
-        }
+        return true;
     }
     if alike(o, 0, 3) {
-        return apart(o, 0, 3);
-    }
-    true
-}
-
-// Slot 1.
-fn second_fair(o: &[u8]) -> bool
-    requires { ⌜ length (now o) ≡ stateSize ⌝ }
-    ensures { λ r. ⌜ r ≡ alone (now (o .entry)) 1 2 ⌝ }
-{
-    if o[slot_place(1)] == 0 {
         return true;
     }
     if alike(o, 1, 2) {
-        if !apart(o, 1, 2) {
-            return false;
-        }
-    }
-    if alike(o, 1, 3) {
-        return apart(o, 1, 3);
-    }
-    true
-}
-
-// Slot 2.
-fn third_fair(o: &[u8]) -> bool
-    requires { ⌜ length (now o) ≡ stateSize ⌝ }
-    ensures { λ r. ⌜ r ≡ alone (now (o .entry)) 2 1 ⌝ }
-{
-    if o[slot_place(2)] == 0 {
         return true;
     }
-    if alike(o, 2, 3) {
-        return apart(o, 2, 3);
+    if alike(o, 1, 3) {
+        return true;
     }
-    true
+    alike(o, 2, 3)
 }
 
-// No two open slots have one key.
-fn pairs_fair(o: &[u8]) -> bool
+// Quick, and enough: no slot is like one before it.
+fn pairs_quick(o: &[u8]) -> bool
     requires { ⌜ length (now o) ≡ stateSize ⌝ }
-    ensures { λ r. ⌜ r ≡ pairsFair (now (o .entry)) 0 slotCount ⌝ }
+    ensures { λ r. ⌜ (r ≡ true → pairsFair (now (o .entry)) 0 slotCount ≡ true) ⌝ }
 {
-    if first_fair(o) {
-        if second_fair(o) {
-            return third_fair(o);
-        }
+    if all_unlike(o) {
+        return true;
+    }
+    !any_alike(o)
+}
+
+// The slots lifted, and judged as slots by value are.
+fn lifted_fair(o: &[u8]) -> bool
+    requires { ⌜ length (now o) ≡ stateSize ⌝ }
+    ensures { λ r. ⌜ r ≡ both (slotsFair (now (o .entry)) 0 slotCount) (pairsFair (now (o .entry)) 0 slotCount) ⌝ }
+{
+    if loading::slots_good(o) {
+        return rebuild::sound(slots_at(o));
     }
     false
 }
 
-// All of them, each by itself and beside the others.
+// All of them, each by itself and beside the others: quickly, or where that is not enough exactly.
 pub fn slots_fair(o: &[u8]) -> bool
     requires { ⌜ length (now o) ≡ stateSize ⌝ }
     ensures { λ r. ⌜ r ≡ both (slotsFair (now (o .entry)) 0 slotCount) (pairsFair (now (o .entry)) 0 slotCount) ⌝ }
 {
-    if each_fair(o) {
-        return pairs_fair(o);
+    if each_quick(o) {
+        if pairs_quick(o) {
+            return true;
+        }
     }
-    false
+    lifted_fair(o)
 }

@@ -116,7 +116,7 @@ pub fn good_at(o: &[u8], i: usize) -> bool
 }
 
 // All of them.
-fn slots_good(o: &[u8]) -> bool
+pub fn slots_good(o: &[u8]) -> bool
     requires { ⌜ length (now o) ≡ stateSize ⌝ }
     ensures { λ r. ⌜ r ≡ slotsGood (now (o .entry)) 0 slotCount ⌝ }
 {

@@ -24,16 +24,14 @@ given-spec =
     (λ c. search needs)
     (λ c. search needs)
     (λ c κs. search needs)
-    (λ c e. not-so e)
     (λ c. search needs)
     (λ c κs. search needs)
-    (λ c e. not-so e)
     (λ c. search needs)
     (λ c κs. search needs)
     (λ c e.
-    let z = eqb-true (c .value3 .result) 0 e in
-    let st = c .before .before .before .before .before .before .before .before in
-    given-none (now (st .args .o)) (st .args .at) (st .args .low) (st .args .top) (st .pre) (omega arith) (omega arith) (omega arith) (omega arith))
+    let st = c .before .before .before .before .before .before in
+    given-none (now (st .args .o)) (st .args .at) (st .args .low) (st .args .top) (st .pre) (omega arith) _ _ _ (c .before .before .four .ensures) (c .before .four2 .ensures) (c .four3 .ensures)
+    (eqb-true _ 0 e))
     (λ c. search needs)
     (λ c. search needs)
     (λ c. search needs)
@@ -58,7 +56,7 @@ given-spec =
     (λ c.
     let l = c .before .before .before in
     let st = l .before .before .before .before .before .before .before .before .before .before .before .before .before .args in
-    (omega arith, past-more (st .o .now) (st .at) _ _ (l .loop .inv .1) (c .if8 .left)))
+    (omega arith, past-more (st .o .now) (st .at) _ _ (l .loop .inv .1) (c .if6 .left)))
     (λ c e.
     let st = c .before .before .before .before .before .before .before .before .before .before .before .before .before .before in
     given-there (now (st .args .o)) (st .args .at) (st .args .low) (st .args .top) (st .pre) (omega arith)
