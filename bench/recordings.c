@@ -9,6 +9,7 @@
      routed        eight devices behind two routers, four logs at once; the invoke IDs of all are one
      damaged [N]   N-th random mixture of good, damaged, refused and segmented traffic, silences and forget orders
      requests [N]  the same with more confirmed requests, most of them with a code of segments accepted (bits 6 to 4 of their second octet)
+     crossed [N]   the same as damaged, each conversation behind a network header of its own: without addresses, from a device, from one to one
      flat N        one segmented message of N items side by side; a silence stands before its last segment
      nested N      the same, sixteen deep
      message N     one segmented message of N octets; the same */
@@ -368,10 +369,10 @@ static int own_network(uint8_t *s, int key)
 }
 
 /* Six conversations over four slots; some lose a segment, repeat one, change their choice, or come from elsewhere. */
-static int next_number[6];
+static int next_number[6], crossed;
 static int some_segment(uint8_t *s, int key)
 {
-    int n = below(12) ? own_network(s, key) : some_network(s);
+    int n = crossed && below(12) ? own_network(s, key) : some_network(s);
     int number = below(12) ? next_number[key] : (int)below(4), more = below(5) != 0;
     if (below(200) == 0) number = 255;
     some_items();
@@ -454,11 +455,12 @@ int main(int argc, char **argv)
     else if (!strcmp(name, "routed")) routed();
     else if (!strcmp(name, "damaged")) damaged(n);
     else if (!strcmp(name, "requests")) coded = 1, damaged(n);
+    else if (!strcmp(name, "crossed")) crossed = 1, damaged(n);
     else if (!strcmp(name, "flat") && n <= 4096) flat(n);
     else if (!strcmp(name, "nested") && n <= 4096) nested(n);
     else if (!strcmp(name, "message") && n <= 16384) message(n);
     else {
-        fputs("usage: recordings [octets | raw] idle | readings | full | segmented | routed | damaged [N] | requests [N] | flat N | nested N | message N\n", stderr);
+        fputs("usage: recordings [octets | raw] idle | readings | full | segmented | routed | damaged [N] | requests [N] | crossed [N] | flat N | nested N | message N\n", stderr);
         return 2;
     }
     return 0;

@@ -80,21 +80,13 @@ pub struct Told {
     pub parts: Parts,
 }
 
-// No address: all zero.
-const NOWHERE: Address = Address {
-    present: false,
-    network: 0,
-    length: 0,
-    octets: [0; 7],
-};
-
 impl Told {
     // It was reported.
     pub const REPORTED: Told = Told {
         at: 0,
         route: Route {
-            source: NOWHERE,
-            destination: NOWHERE,
+            source: Address::NONE,
+            destination: Address::NONE,
         },
         parts: Parts {
             kind: 0,

@@ -278,44 +278,49 @@ key-parts =
     }
 
 -- ---- what the history joins to one message: each step of a run adds a segment that ends at its place, and only where its key is the message's
-module _ {M : Type 0} (e : Edition) (t : Trace Out M) (k : Key) where
+module _ {M : Type 0} (e : Edition) (t : Trace Out M) (first n : ℕ) (k : Key) where
+  -- a place of the run
+  abbrev Here : ℕ → Type 0
+  Here p = (first ≤ p) × (p < first + n)
+
   abbrev Joins : Log Key → Type 0
-  Joins log = AllCarried e t k (since keys k log)
+  Joins log = AllCarried e t first n k (since keys k log)
 
   -- one more at the end
-  behind-all : (gs : List (Segment Key)) (g : Segment Key) → AllCarried e t k gs → Carried e t k g → AllCarried e t k (gs ++ (g ∷ []))
+  behind-all : (gs : List (Segment Key)) (g : Segment Key) → AllCarried e t first n k gs → Carried e t first n k g → AllCarried e t first n k (gs ++ (g ∷ []))
   behind-all [] g a c = (c, tt)
   behind-all (x ∷ gs) g a c = (a .0, behind-all gs g (a .1) c)
 
   -- a segment is joined only if the keys are the same, which means one
-  said-joins : (p : ℕ) (head payload : List ℕ) → ended p t ≡ some (good head payload) → (g : Segment Key) → segmentAt e (good head payload) ≡ some g
+  said-joins : (p : ℕ) → Here p → (head payload : List ℕ) → ended p t ≡ some (good head payload) → (g : Segment Key) → segmentAt e (good head payload) ≡ some g
       → (w : Answer) (log : Log Key) → Joins log → Joins (said g w ∷ log)
-  said-joins p head payload here g is w log a =
-      pick-cases (AllCarried e t k) (of keys k g w)
+  said-joins p there head payload here g is w log a =
+      pick-cases (AllCarried e t first n k) (of keys k g w)
       (λ o.
       let one : g .key ≡ k = key-laws .only (g .key) k (both-right (accepted w) _ o) in
-      let c : Carried e t k g =
-      record { place = p; head = head; payload = payload; ends = here; carries = is; heard = subst (KeyHeard e head payload) one (frame-heard e head payload g is) } in
-      pick-case (AllCarried e t k) (starting keys g log) (c, tt) (behind-all (since keys k log) g a c))
+      let c : Carried e t first n k g =
+      record { place = p; behind = there .0; within = there .1; head = head; payload = payload; ends = here; carries = is; heard = subst (KeyHeard e head payload) one (frame-heard e head payload g is) } in
+      pick-case (AllCarried e t first n k) (starting keys g log) (c, tt) (behind-all (since keys k log) g a c))
       (λ _. a)
 
   -- a place where a good frame ends, and any place
-  entry-joins : (p : ℕ) (head payload : List ℕ) → ended p t ≡ some (good head payload) → (y : Option (Segment Key)) → segmentAt e (good head payload) ≡ y
+  entry-joins : (p : ℕ) → Here p → (head payload : List ℕ) → ended p t ≡ some (good head payload) → (y : Option (Segment Key)) → segmentAt e (good head payload) ≡ y
       → (r : Option (List ℕ)) (log : Log Key) → Joins log → Joins (heardEntry y r log)
-  entry-joins p head payload here none is r log a = a
-  entry-joins p head payload here (some g) is none log a = a
-  entry-joins p head payload here (some g) is (some r) log a = said-joins p head payload here g is (answerIn r) log a
+  entry-joins p there head payload here none is r log a = a
+  entry-joins p there head payload here (some g) is none log a = a
+  entry-joins p there head payload here (some g) is (some r) log a = said-joins p there head payload here g is (answerIn r) log a
 
-  place-joins : (p : ℕ) (y : Option Out) → ended p t ≡ y → (r : Option (List ℕ)) (log : Log Key) → Joins log → Joins (heardEntry (segmentEnding e y) r log)
-  place-joins p none here r log a = a
-  place-joins p (some (good head payload)) here r log a = entry-joins p head payload here (segmentAt e (good head payload)) refl r log a
-  place-joins p (some (damage n)) here r log a = a
+  place-joins : (p : ℕ) → Here p → (y : Option Out) → ended p t ≡ y → (r : Option (List ℕ)) (log : Log Key) → Joins log → Joins (heardEntry (segmentEnding e y) r log)
+  place-joins p there none here r log a = a
+  place-joins p there (some (good head payload)) here r log a = entry-joins p there head payload here (segmentAt e (good head payload)) refl r log a
+  place-joins p there (some (damage x)) here r log a = a
 
-  run-joins : (reports : List (ℕ × List ℕ)) (p : ℕ) (run : Run) (log : Log Key) → Joins log → Joins (heardLog e t reports p run log)
-  run-joins reports p [] log a = a
-  run-joins reports p (trunk x ∷ run) log a =
-      run-joins reports (p + 1) run (heardEntry (segmentEnding e (ended p t)) (reportAt p reports) log) (place-joins p (ended p t) refl (reportAt p reports) log a)
-  run-joins reports p (forget i ∷ run) log a = run-joins reports p run log a
+  run-joins : (reports : List (ℕ × List ℕ)) (p : ℕ) (run : Run) → first ≤ p → p + length (wire run) ≤ first + n → (log : Log Key) → Joins log → Joins (heardLog e t reports p run log)
+  run-joins reports p [] l h log a = a
+  run-joins reports p (trunk x ∷ run) l h log a =
+      run-joins reports (p + 1) run (omega arith) (omega arith) (heardEntry (segmentEnding e (ended p t)) (reportAt p reports) log)
+      (place-joins p (l, omega arith) (ended p t) refl (reportAt p reports) log a)
+  run-joins reports p (forget i ∷ run) l h log a = run-joins reports p run l h log a
 
   -- the same in the recording's own history: it begins with the slots that are open, which are no segments
   standing-joins : (ts : List (Slot Key)) → Joins (standing ts)
@@ -327,25 +332,26 @@ module _ {M : Type 0} (e : Edition) (t : Trace Out M) (k : Key) where
   Keep ds = (w : Past Key) → Joins (w .log) → Joins (runs keys w ds .log)
 
   -- with the segment of a good frame that ends at a place in front of them, if it carries one; and with what ends at any place
-  segment-keeps : (p : ℕ) (head payload : List ℕ) → ended p t ≡ some (good head payload) → (y : Option (Segment Key)) → segmentAt e (good head payload) ≡ y
+  segment-keeps : (p : ℕ) → Here p → (head payload : List ℕ) → ended p t ≡ some (good head payload) → (y : Option (Segment Key)) → segmentAt e (good head payload) ≡ y
       → (ds : List (Deed Key)) → Keep ds → Keep (deedOf keys (bacnet e) y ++ ds)
-  segment-keeps p head payload here none is ds f w a = f w a
-  segment-keeps p head payload here (some g) is ds f w a =
-      f (after keys (segment g) w) (said-joins p head payload here g is (rebuild keys g (w .box) .answer) (w .log) a)
+  segment-keeps p there head payload here none is ds f w a = f w a
+  segment-keeps p there head payload here (some g) is ds f w a =
+      f (after keys (segment g) w) (said-joins p there head payload here g is (rebuild keys g (w .box) .answer) (w .log) a)
 
-  place-keeps : (p : ℕ) (y : Option Out) → ended p t ≡ y → (ds : List (Deed Key)) → Keep ds → Keep (deedsAt keys (bacnet e) y ++ ds)
-  place-keeps p none here ds f w a = f w a
-  place-keeps p (some (good head payload)) here ds f w a = segment-keeps p head payload here (segmentAt e (good head payload)) refl ds f w a
-  place-keeps p (some (damage n)) here ds f w a = f w a
+  place-keeps : (p : ℕ) → Here p → (y : Option Out) → ended p t ≡ y → (ds : List (Deed Key)) → Keep ds → Keep (deedsAt keys (bacnet e) y ++ ds)
+  place-keeps p there none here ds f w a = f w a
+  place-keeps p there (some (good head payload)) here ds f w a = segment-keeps p there head payload here (segmentAt e (good head payload)) refl ds f w a
+  place-keeps p there (some (damage x)) here ds f w a = f w a
 
   -- a forget order is no segment either
-  deeds-keep : (p : ℕ) (run : Run) → Keep (deeds keys (bacnet e) t p run)
-  deeds-keep p [] w a = a
-  deeds-keep p (trunk x ∷ run) w a = place-keeps p (ended p t) refl (deeds keys (bacnet e) t (p + 1) run) (deeds-keep (p + 1) run) w a
-  deeds-keep p (forget i ∷ run) w a = deeds-keep p run (after keys (forgetting i) w) (pick-case Joins (slotAt keys (w .box .slots) i .used) a a)
+  deeds-keep : (p : ℕ) (run : Run) → first ≤ p → p + length (wire run) ≤ first + n → Keep (deeds keys (bacnet e) t p run)
+  deeds-keep p [] l h w a = a
+  deeds-keep p (trunk x ∷ run) l h w a =
+      place-keeps p (l, omega arith) (ended p t) refl (deeds keys (bacnet e) t (p + 1) run) (deeds-keep (p + 1) run (omega arith) (omega arith)) w a
+  deeds-keep p (forget i ∷ run) l h w a = deeds-keep p run l h (after keys (forgetting i) w) (pick-case Joins (slotAt keys (w .box .slots) i .used) a a)
 
-  history-joins : (p : ℕ) (s : List (Slot Key)) (area : List ℕ) (run : Run) → Joins (history keys (bacnet e) t p s area run)
-  history-joins p s area run = deeds-keep p run (past (standing s) (boxed s area)) (standing-joins s)
+  history-joins : (s : List (Slot Key)) (area : List ℕ) (run : Run) → length (wire run) ≡ n → Joins (history keys (bacnet e) t first s area run)
+  history-joins s area run q = deeds-keep first run (omega arith) (omega arith) (past (standing s) (boxed s area)) (standing-joins s)
 
 -- ---- the slot that an accepted segment is laid in, where it is open: its key's own, since the other one that the search stops at is free
 module _ (g : Segment Key) (b : Box Key) where
@@ -415,7 +421,10 @@ module _ (g : Segment Key) (b : Box Key) where
 pub one-slot-one-key : OneSlotOneKey
 one-slot-one-key =
     record {
-      joined = λ c run reports k. run-joins (c .edition) (readFrom (c .receiver) (wire run)) k reports (length (heldOf (c .receiver))) run [] tt;
-      recorded = λ c area all run k. history-joins (c .edition) (readFrom (c .receiver) (wire all)) k (length (heldOf (c .receiver))) (slotsOf c) area run;
+      joined = λ c run reports k.
+          run-joins (c .edition) (readFrom (c .receiver) (wire run)) (length (heldOf (c .receiver))) (length (wire run)) k reports (length (heldOf (c .receiver))) run
+          (omega arith) (omega arith) [] tt;
+      recorded = λ c area all run k.
+          history-joins (c .edition) (readFrom (c .receiver) (wire all)) (length (heldOf (c .receiver))) (length (wire run)) k (slotsOf c) area run refl;
       laid = λ g b i n e u. same-agree _ _ (rebuild-lays g b i n e u);
     }

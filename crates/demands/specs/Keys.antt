@@ -1,6 +1,6 @@
 -- "The key (MS/TP source, MS/TP destination, PDU type, invoke ID) must add SNET, SADR, DNET and DADR from the network header, absence being distinct from every present
 -- value." What the eight parts of a segment's key are, by its frame's own octets, and that segments are joined, and laid in an open slot, by all eight.
-use Prim.Native.Nat.{ℕ, _<_}
+use Prim.Native.Nat.{ℕ, _+_, _≤_, _<_}
 use mathlib.Core.Path.{_≡_}
 use mathlib.Core.Logic.{_↔_, _⊎_}
 use mathlib.Core.Bool.{Bool, true}
@@ -80,27 +80,29 @@ pub record KeyParts : Type 0 where
   pub heard : (e : Edition) (head payload : List ℕ) (g : Segment Key) → segmentAt e (good head payload) ≡ some g → KeyHeard e head payload (g .key)
   pub given : (e : Edition) (head payload : List ℕ) (g : Segment Key) → Octets payload → segmentAt e (good head payload) ≡ some g → Headed (g .key)
 
--- ---- a segment of a good frame that ends at a place of the trunk, by that frame's own octets of this key
-pub record Carried {M : Type 0} (e : Edition) (t : Trace Out M) (k : Key) (g : Segment Key) : Type 0 where
+-- ---- a segment of a good frame that ends at one of n places of the trunk, the run's, by that frame's own octets of this key
+pub record Carried {M : Type 0} (e : Edition) (t : Trace Out M) (first n : ℕ) (k : Key) (g : Segment Key) : Type 0 where
   pub place : ℕ
+  pub behind : first ≤ place
+  pub within : place < first + n
   pub head : List ℕ
   pub payload : List ℕ
   pub ends : ended place t ≡ some (good head payload)
   pub carries : segmentAt e (good head payload) ≡ some g
   pub heard : KeyHeard e head payload k
 
-abbrev pub AllCarried : {M : Type 0} → Edition → Trace Out M → Key → List (Segment Key) → Type 0
-AllCarried e t k [] = Unit {0}
-AllCarried e t k (g ∷ gs) = Carried e t k g × AllCarried e t k gs
+abbrev pub AllCarried : {M : Type 0} → Edition → Trace Out M → ℕ → ℕ → Key → List (Segment Key) → Type 0
+AllCarried e t first n k [] = Unit {0}
+AllCarried e t first n k (g ∷ gs) = Carried e t first n k g × AllCarried e t first n k gs
 
--- All segments that the history joins to one message, of whatever key, are of frames whose own octets say all eight parts of that key, in the history that is heard
+-- All segments that the history joins to one message, of whatever key, are of frames of the run whose own octets say all eight parts of that key, in the history that is heard
 -- (CompletedAsReported) and in that of the recording (MessagesWhole); and an accepted segment agrees in all eight with the open slot that it is laid in.
 pub record OneSlotOneKey : Type 0 where
   pub joined : (c : Collector) (run : Run) (reports : List (ℕ × List ℕ)) (k : Key)
-      → AllCarried (c .edition) (readFrom (c .receiver) (wire run)) k (since keys k (heardFrom c run reports))
+      → AllCarried (c .edition) (readFrom (c .receiver) (wire run)) (length (heldOf (c .receiver))) (length (wire run)) k (since keys k (heardFrom c run reports))
   pub recorded : (c : Collector) (area : List ℕ) (all run : Run) (k : Key)
       → (let t = readFrom (c .receiver) (wire all) in
-      AllCarried (c .edition) t k (since keys k (history keys (bacnet (c .edition)) t (length (heldOf (c .receiver))) (slotsOf c) area run)))
+      AllCarried (c .edition) t (length (heldOf (c .receiver))) (length (wire run)) k (since keys k (history keys (bacnet (c .edition)) t (length (heldOf (c .receiver))) (slotsOf c) area run)))
   pub laid : (g : Segment Key) (b : Box Key) (i n : ℕ) → (rebuild keys g b .answer ≡ taken i n) ⊎ (rebuild keys g b .answer ≡ completed i n)
       → slotAt keys (b .slots) i .used ≡ true → Agree (slotAt keys (b .slots) i .key) (g .key)
 

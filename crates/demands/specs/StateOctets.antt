@@ -24,7 +24,7 @@ use Rattle.state.specs.Calls.{Loads}
 abbrev pub workedStore : List ℕ
 workedStore = 80 ∷ (replicate 499 0 ++ (81 ∷ []))
 
--- two open slots, each with a network source and a network destination
+-- two open slots, one without a network destination and one without a network source; the fields of the absent one are filled too, so that each octet is seen
 abbrev pub workedSlot : Slot
 workedSlot =
     record {

@@ -20,14 +20,6 @@ pub struct Key {
     pub to: Address,
 }
 
-// No address: all zero.
-const NOWHERE: Address = Address {
-    present: false,
-    network: 0,
-    length: 0,
-    octets: [0; 7],
-};
-
 // A slot's record: the number that must come next, the service choice, the octets held. A free slot is all zero.
 #[repr(C)]
 pub struct Slot {
@@ -46,8 +38,8 @@ impl Slot {
             destination: 0,
             kind: 0,
             invoke: 0,
-            from: NOWHERE,
-            to: NOWHERE,
+            from: Address::NONE,
+            to: Address::NONE,
         },
         next: 0,
         choice: 0,

@@ -90,7 +90,12 @@ fn addressed(o: &[u8], at: usize) -> u32
     requires { ⌜ at + slotSize ≤ length (now o) ⌝ }
     ensures { λ r. ⌜ (r ≡ 0 → NoAddress (now (o .entry)) at) ⌝ }
 {
-    four(o, at + 9) | four(o, at + 13) | four(o, at + 17) | four(o, at + 21) | four(o, at + 25) | four(o, at + 27)
+    four(o, at + 9)
+        | four(o, at + 13)
+        | four(o, at + 17)
+        | four(o, at + 21)
+        | four(o, at + 25)
+        | four(o, at + 27)
 }
 
 // Quick, and enough: no slot has an address, all hold less than 16,384, and each is open or free.
@@ -104,7 +109,11 @@ fn all_plain(o: &[u8]) -> bool
     if 63 < over(o, 7) {
         return false;
     }
-    (addressed(o, SLOTS) | addressed(o, SLOTS + SLOT) | addressed(o, SLOTS + SLOT * 2) | addressed(o, SLOTS + SLOT * 3)) == 0
+    (addressed(o, SLOTS)
+        | addressed(o, SLOTS + SLOT)
+        | addressed(o, SLOTS + SLOT * 2)
+        | addressed(o, SLOTS + SLOT * 3))
+        == 0
 }
 
 // Quick, and enough: the eleven octets at a place are an address that a part with this least length and this greatest network number gives.

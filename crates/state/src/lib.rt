@@ -75,7 +75,7 @@ pub struct Silence {
     pub link: Link,
 }
 
-// The same judgement, and the link. (Made of the same parts as `judge`, and not of it: what has one caller alone is laid into that one.)
+// The same judgement, and the link. (The tests of `judge` again and no call of it: with two callers it would be laid into neither.)
 pub fn still(area: &[u8]) -> Silence
     ensures { λ r. ⌜ Stands (now (area .entry)) r ⌝ }
 {
