@@ -151,12 +151,26 @@ module _ (s : List ℕ) (os : Octets s) (p q : ℕ) (one : addressAt s p ≡ add
       let b : q + suc (suc (suc (suc j))) ≡ q + 4 + j = omega arith in
       rw (a, b) (octet-same j (omega arith))
 
-  pub one-four : (m : ℕ) → 1 ≤ m → m + 4 ≤ addressSize → (a b : ℕ) → a ≡ p + m → b ≡ q + m → fourAt s a ≡ fourAt s b
-  one-four m l h a b e d =
-      four-same s a b (λ k n.
-      let x : a + k ≡ p + (m + k) = omega arith in
-      let y : b + k ≡ q + (m + k) = omega arith in
+  four-behind : (m : ℕ) → 1 ≤ m → m + 4 ≤ addressSize → fourAt s (p + m) ≡ fourAt s (q + m)
+  four-behind m l h =
+      four-same s (p + m) (q + m) (λ k n.
+      let x : p + m + k ≡ p + (m + k) = omega arith in
+      let y : q + m + k ≡ q + (m + k) = omega arith in
       rw (x, y) (behind-same (m + k) (omega arith) (omega arith)))
+
+-- so two that differ in such a number, x and y, are two; ten octets in three numbers, of which the last two overlap
+module _ (s : List ℕ) (os : Octets s) (p q x y : ℕ) (n : x ≡ y → ⊥) where
+  pub other-1 : x ≡ fourAt s (p + 1) → y ≡ fourAt s (q + 1) → addressAt s p ≡ addressAt s q → ⊥
+  other-1 e d one = let f = four-behind s os p q one 1 (omega arith) (omega arith) in n (cc)
+
+  pub other-5 : x ≡ fourAt s (p + 5) → y ≡ fourAt s (q + 5) → addressAt s p ≡ addressAt s q → ⊥
+  other-5 e d one = let f = four-behind s os p q one 5 (omega arith) (omega arith) in n (cc)
+
+  pub other-7 : x ≡ fourAt s (p + 7) → y ≡ fourAt s (q + 7) → addressAt s p ≡ addressAt s q → ⊥
+  other-7 e d one = let f = four-behind s os p q one 7 (omega arith) (omega arith) in n (cc)
+
+-- for `search (needs, address-ways)`
+pub ruleset address-ways = (other-1, other-5, other-7)
 
 -- ---- its parts, laid one after the other
 pub address-laid : (area n : List ℕ) (a : Address) (at : ℕ) {l₁ l₂ : List ℕ} → at + addressSize ≤ length area → length (a .octets) ≡ 7 → n ≡ numberOctets a

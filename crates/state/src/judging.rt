@@ -187,7 +187,21 @@ fn each_quick(o: &[u8]) -> bool
     false
 }
 
-// Whether slot j is open and has what keys differ in most of slot i: the first four parts, and of either address the network number, the length and five octets.
+// Whether two addresses have the same octets behind those that say whether they are there.
+fn one_address(o: &[u8], p: usize, q: usize) -> bool
+    requires { ⌜ (p + addressSize ≤ length (now o)) × (q + addressSize ≤ length (now o)) ⌝ }
+    ensures { λ r. ⌜ (r ≡ false → addressAt (now (o .entry)) p ≡ addressAt (now (o .entry)) q → ⊥) ⌝ }
+{
+    if four(o, p + 1) != four(o, q + 1) {
+        return false;
+    }
+    if four(o, p + 5) != four(o, q + 5) {
+        return false;
+    }
+    four(o, p + 7) == four(o, q + 7)
+}
+
+// Whether slot j is open and its key's octets are those of slot i, but for the two that say whether an address is there.
 fn alike(o: &[u8], i: usize, j: usize) -> bool
     requires { ⌜ (length (now o) ≡ stateSize) × (i < slotCount) × (j < slotCount) ⌝ }
     ensures { λ r. ⌜ (r ≡ false → apart (now (o .entry)) i j ≡ true) ⌝ }
@@ -200,16 +214,10 @@ fn alike(o: &[u8], i: usize, j: usize) -> bool
     if o[b] == 0 {
         return false;
     }
-    if four(o, a + 10) != four(o, b + 10) {
-        return false;
+    if one_address(o, a + 9, b + 9) {
+        return one_address(o, a + 20, b + 20);
     }
-    if four(o, a + 14) != four(o, b + 14) {
-        return false;
-    }
-    if four(o, a + 21) != four(o, b + 21) {
-        return false;
-    }
-    four(o, a + 25) == four(o, b + 25)
+    false
 }
 
 // Quick, and enough: no two slots, open or not, have the first four parts of one key.

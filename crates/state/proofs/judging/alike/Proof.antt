@@ -1,15 +1,8 @@
-use native.Mathlib.Omega.{arith}
-use denote.Ref.{now}
-use borrow.Author.Tests.{eqb-false}
-use Rattle.octets.specs.Reading.{Octets}
-use Rattle.state.proofs.Pairs.{alike-ways}
+use mathlib.Core.Path.{_≡_}
+use Rattle.state.proofs.Pairs.{alike-ways, from-apart, to-apart}
 use borrow.Author.Needs.{needs}
 use Rattle.state.proofs.judging.alike.Statement.{statement}
 use Rattle.state.proofs.judging.alike.Tie as tie
-
--- the area is octets
-known : (st : tie.After-shared-slice-known) → Octets (now (st .before .args .o))
-known st i = omega (arith, st .shared-slice-known .given i)
 
 pub alike-spec : {M : Type 1} → statement M
 alike-spec =
@@ -25,26 +18,16 @@ alike-spec =
     (λ c. search needs)
     (λ c e. search (needs, alike-ways))
     (λ c. search needs)
-    (λ c κs. search needs)
-    (λ c. search needs)
-    (λ c κs. search needs)
-    (λ c e. let st : tie.After-shared-slice-known = search needs in let os = known st in search (needs, alike-ways))
     (λ c. search needs)
     (λ c κs. search needs)
     (λ c. search needs)
-    (λ c κs. search needs)
-    (λ c e. let st : tie.After-shared-slice-known = search needs in let os = known st in search (needs, alike-ways))
-    (λ c. search needs)
-    (λ c κs. search needs)
-    (λ c. search needs)
-    (λ c κs. search needs)
-    (λ c e. let st : tie.After-shared-slice-known = search needs in let os = known st in search (needs, alike-ways))
-    (λ c. search needs)
-    (λ c κs. search needs)
     (λ c. search needs)
     (λ c κs. search needs)
     (λ c e.
-    let st : tie.After-shared-slice-known = search needs in
-    let os = known st in
-    let n = eqb-false (c .before .four9 .result) (c .four10 .result) e in
-    search (needs, alike-ways)))
+    let a : tie.After-slot-place = search needs in
+    let b : tie.After-slot-place2 = search needs in
+    to-apart _ _ _ _ _ (a .slot-place .ensures) (b .slot-place2 .ensures) (c .one-address2 .ensures e))
+    (λ c e.
+    let a : tie.After-slot-place = search needs in
+    let b : tie.After-slot-place2 = search needs in
+    from-apart _ _ _ _ _ (a .slot-place .ensures) (b .slot-place2 .ensures) (c .before .one-address .ensures (c .if3 .left))))
