@@ -162,6 +162,16 @@ module _ (t : Slots) (s : ℕ) (w : Passing t s) where
     pub unsound-held : 16384 < getD (t .slots) s blank .held → false ≡ Sound.passes keys 4 (view t)
     unsound-held o = sym (tested ∙ sound-over keys (view t) s within (rw held-here o))
 
+    -- a slot that is free is neither
+    pub passing-free : getD (t .slots) s blank .held ≤ 16384 → getD (t .slots) s blank .used ≡ false → Passing t (s + 1)
+    passing-free o u =
+        let x = getD (t .slots) s blank in
+        let n : Sound.strange keys (seen x) ≡ false = rw u (both-false (non (givenKey (x .key)))) in
+        record {
+          four = w .four;
+          same = w .same ∙ sound-on keys (view t) s within (rw held-here o) (at-view (Sound.strange keys) t s inside ∙ n) (twice-free t s (drop (s + 1) (view t)) inside u);
+        }
+
     module _ (o : getD (t .slots) s blank .held ≤ 16384) (b : Bool) (e : b ≡ Sound.strange keys (seen (getD (t .slots) s blank))) where
       is-strange : (v : Bool) → b ≡ v → Sound.strange keys (Messages.slotAt keys (view t) s) ≡ v
       is-strange v q = at-view (Sound.strange keys) t s inside ∙ sym e ∙ q

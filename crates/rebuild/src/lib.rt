@@ -139,11 +139,14 @@ pub fn sound(slots: Slots) -> bool
         if 16384 < x.held {
             return false;
         }
-        if search::strange(x) {
-            return false;
-        }
-        if search::twice(slots, s) {
-            return false;
+        let is_open = x.used;
+        if is_open {
+            if search::strange(x) {
+                return false;
+            }
+            if search::twice(slots, s) {
+                return false;
+            }
         }
         s += 1;
     }
