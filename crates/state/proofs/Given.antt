@@ -31,6 +31,14 @@ past-none s at len i e k a b = absurd (omega arith)
 pub past-more : (s : List ℕ) (at len i : ℕ) → Past s at len i → oct s (at + 4 + i) ≡ 0 → Past s at len (i + 1)
 past-more s at len i p e k a b = by-test (eqb k i) (λ t. rw (eqb-true k i t) e) (λ f. let d = eqb-false k i f in p k a (omega arith))
 
+-- those past the first, in two numbers that overlap
+pub past-one : (s : List ℕ) (at x y : ℕ) → x ≡ fourAt s (at + 5) → y ≡ fourAt s (at + 7) → bitOr x y ≡ 0 → Past s at 1 7
+past-one s at x y e d z k a b =
+    let o = or-zero x y z in
+    by-test (ltb k 5)
+    (λ t. four-zeros s (at + 5) (sym e ∙ o .0) (at + 4 + k) (omega arith) (omega (arith, ltb-true k 5 t)))
+    (λ f. four-zeros s (at + 7) (sym d ∙ o .1) (at + 4 + k) (omega (arith, ltb-false k 5 f)) (omega arith))
+
 -- seven octets that are 0 past a length are as a reading shows them
 cut-stays : (x : List ℕ) (len : ℕ) → length x ≡ 7 → len ≤ 7 → ((k : ℕ) → len ≤ k → k < 7 → oct x k ≡ 0) → cut len x ≡ x
 unfolding cut

@@ -5,11 +5,11 @@ use mathlib.Core.Path.{_≡_, refl, ap, _∙_}
 use mathlib.Core.Bool.{true, false}
 use mathlib.Core.List.{List}
 use lib.Bits.{bitOr}
-use lib.Dec.{ltb, lit<, lit≤}
+use lib.Dec.{eqb, ltb, lit<, lit≤}
 use lib.ListN.{length, drop}
 use lib.Seq.{getD-take, getD-drop}
-use borrow.Author.Tests.{le-leb}
-use Rattle.octets.specs.Choice.{non, both-false, true-both}
+use borrow.Author.Tests.{le-leb, eqb-true, eqb-false}
+use Rattle.octets.specs.Choice.{non, both-false, true-both, by-test}
 use Rattle.octets.specs.Reading.{oct, Octets}
 use Rattle.npdu.specs.Address.{absent, gives, givesSource, givesDestination}
 use Rattle.messages.specs.Slots.{room}
@@ -139,20 +139,24 @@ over-four o k i h =
     (or-right (bitOr (bitOr a b) c) d)
     i h
 
+-- ---- each slot by itself, one after the other
+pub fair-more : (o : List ℕ) (i : ℕ) → ((j : ℕ) → j < i → slotFair o j ≡ true) → slotFair o i ≡ true → (j : ℕ) → j < i + 1 → slotFair o j ≡ true
+fair-more o i f t j h = by-test (eqb j i) (λ e. rw (eqb-true j i e) t) (λ e. f j (omega (arith, eqb-false j i e)))
+
+pub all-fair : (o : List ℕ) → ((j : ℕ) → j < slotCount → slotFair o j ≡ true) → slotsFair o 0 slotCount ≡ true
+all-fair o f =
+    true-both _ _ (f 0 (lit< tt)) (true-both _ _ (f 1 (lit< tt)) (true-both _ _ (f 2 (lit< tt)) (true-both _ _ (f 3 (lit< tt)) refl)))
+
 -- ---- no slot has an address: a and b are the octets 0 and 7 of the four, one over the other
 module _ (o : List ℕ) (a b : ℕ) (os : Octets o) (size : length o ≡ stateSize) (flags : Over o 0 a) (one : a ≤ 1) (held : Over o 7 b) (small : b ≤ 63)
     (none : (i : ℕ) → i < slotCount → NoAddress o (slotPlace i)) where
-  plain-each : (i n : ℕ) → i + n ≤ slotCount → slotsFair o i n ≡ true
-  plain-each i zero h = refl
-  plain-each i (suc n) h =
-      let l : i < slotCount = omega arith in
+  pub all-plain : slotsFair o 0 slotCount ≡ true
+  all-plain =
+      all-fair o (λ i l.
       let z : slotPlace i + 0 ≡ slotPlace i = omega arith in
       let f : oct o (slotPlace i) ≤ a = rw z at (flags i l) in
       let m = held i l in
-      true-both _ _ (plain-open o i (slotPlace i) refl os (omega arith) size l (none i l) (omega arith)) (plain-each (suc i) n (omega arith))
-
-  pub all-plain : slotsFair o 0 slotCount ≡ true
-  all-plain = plain-each 0 slotCount (omega arith)
+      plain-open o i (slotPlace i) refl os (omega arith) size l (none i l) (omega arith))
 
 -- four slots, one by one
 pub none-four : (o : List ℕ) → NoAddress o (slotPlace 0) → NoAddress o (slotPlace 1) → NoAddress o (slotPlace 2) → NoAddress o (slotPlace 3)
@@ -172,19 +176,18 @@ module _ (o : List ℕ) (a b c d : ℕ) (os : Octets o) (free : Over o 0 a) (non
       let f : oct o (slotPlace i) ≤ a = rw z at (free i h) in
       omega arith
 
-  each-fair : (i n : ℕ) → i + n ≤ slotCount → slotsFair o i n ≡ true
-  each-fair i zero h = refl
-  each-fair i (suc n) h =
-      let l : i < slotCount = omega arith in
-      let f = from i l in
-      let t = to i l in
-      let m = held i l in
-      true-both _ _ (plain-free o i (slotPlace i) refl os (omega arith) (first-free i l) (omega arith) (omega arith)) (each-fair (suc i) n (omega arith))
-
   each-alone : (i n : ℕ) → i + n ≤ slotCount → pairsFair o i n ≡ true
   unfolding alone
   each-alone i zero h = refl
   each-alone i (suc n) h = rw (slot-used o i (slotPlace i) refl, first-free i (omega arith)) (each-alone (suc i) n (omega arith))
 
   pub all-free : AllFree o
-  all-free = record { slots = each-fair 0 slotCount (omega arith); pairs = each-alone 0 slotCount (omega arith) }
+  all-free =
+      record {
+        slots = all-fair o (λ i l.
+            let f = from i l in
+            let t = to i l in
+            let m = held i l in
+            plain-free o i (slotPlace i) refl os (omega arith) (first-free i l) (omega arith) (omega arith));
+        pairs = each-alone 0 slotCount (omega arith);
+      }

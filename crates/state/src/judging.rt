@@ -138,6 +138,9 @@ fn given(o: &[u8], at: usize, low: u8, top: u16) -> bool
     if 7 < len {
         return false;
     }
+    if len == 1 {
+        return (four(o, at + 5) | four(o, at + 7)) == 0;
+    }
     let mut i = octets::wide(len);
     while i < 7 {
         if o[at + 4 + i] != 0 {
@@ -177,14 +180,14 @@ fn each_quick(o: &[u8]) -> bool
     if all_plain(o) {
         return true;
     }
-    if routed(o, 0) {
-        if routed(o, 1) {
-            if routed(o, 2) {
-                return routed(o, 3);
-            }
+    let mut i = 0;
+    while i < 4 {
+        if !routed(o, i) {
+            return false;
         }
+        i += 1;
     }
-    false
+    true
 }
 
 // Whether two addresses have the same octets behind those that say whether they are there.
