@@ -34,7 +34,7 @@ use Rattle.reports.specs.declared.Report.{Report}
 use Rattle.collector.specs.Heard.{frameOf, heardOf, Route}
 use Rattle.collector.specs.Frame.{Content, segmentFrom, segmentIn, plainReport, stepReport, contentOf, contents, bacnet}
 use Rattle.collector.specs.Frame.Content.{other, message}
-use Rattle.collector.specs.Acting.{acting, carrying, Acted, ActedAlone, Kept, Named}
+use Rattle.collector.specs.Acting.{acting, carrying, Acted, ActedAlone, Kept, Lent, Named, Seated, Takes}
 use Rattle.collector.specs.declared.heard.Heard.{Heard}
 use Rattle.collector.specs.declared.heard.Parts.{Parts}
 use Rattle.collector.proofs.Content.{content-other}
@@ -90,6 +90,19 @@ module _ (t : Slots) (g : Segment) (o area : List ℕ) (z : length area ≡ 6553
 
   pub named : passes keys 4 (view t) ≡ true → Named (r .answer) later
   named f = named-by f (r .answer) refl
+
+  -- both together
+  pub segment-taken : passes keys 4 (view t) ≡ true → (w : Heard) (v : Route) (m : Parts) (a : List ℕ) → m .segment .seg ≡ true → View.segmentOf g o ≡ segmentFrom w v m a
+      → Takes w v m a t area r later
+  segment-taken f w v m a is e = record { named = named f; acted = λ report q. segment-acted w v m a is e q }
+
+-- what a frame's function is lent is enough for rebuilding alone; and a segment taken and reported is done
+pub lent-seated : {report : List ℕ} {t : Slots} {area : List ℕ} → Lent report t area → Seated t area
+lent-seated l = record { fair = l .fair; sized = l .sized }
+
+pub takes-acted : {w : Heard} {v : Route} {m : Parts} {a : List ℕ} {t : Slots} {area : List ℕ} {r : Taken} {later report : List ℕ} → Takes w v m a t area r later
+    → report ≡ reportOctets (stepReport w m (r .answer) later) → Acted (acting w (message v m a) (view t) area) (r .slots) report later
+takes-acted h q = h .acted _ q
 
 -- ---- a good frame of another type than 5 and 6; by what the code asks, one that carries no network header
 frame-other : (w : Heard) (payload : List ℕ) (t : Slots) (area : List ℕ) {report : List ℕ} → (w .frame .kind ≡ 5 → ⊥) → (w .frame .kind ≡ 6 → ⊥)

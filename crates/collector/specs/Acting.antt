@@ -16,10 +16,11 @@ use Rattle.rebuild.specs.declared.Key.{Key}
 use Rattle.rebuild.specs.declared.Slots.{Slots}
 use Rattle.rebuild.specs.declared.Step.{Step}
 use Rattle.rebuild.specs.declared.Step.the-variants.{Refused, Held, Complete}
+use Rattle.rebuild.specs.declared.Taken.{Taken}
 use Rattle.recordings.specs.Frames.{actOn}
 use Rattle.reports.specs.Layout.{reportSize, reportOctets}
 use Rattle.collector.specs.Heard.{heardOf, Route}
-use Rattle.collector.specs.Frame.{Content, segmentIn, plainReport, contents, contentOf}
+use Rattle.collector.specs.Frame.{Content, segmentIn, plainReport, stepReport, contents, contentOf}
 use Rattle.collector.specs.declared.heard.Heard.{Heard}
 use Rattle.collector.specs.declared.heard.Parts.{Parts}
 use Rattle.collector.specs.declared.heard.Told.{Told}
@@ -64,6 +65,11 @@ pub record Lent (report : List ℕ) (t : Slots) (area : List ℕ) : Type 0 where
   pub fair : passes keys 4 (view t) ≡ true
   pub sized : length area ≡ 65536
 
+-- what rebuilding alone is lent
+pub record Seated (t : Slots) (area : List ℕ) : Type 0 where
+  pub fair : passes keys 4 (view t) ≡ true
+  pub sized : length area ≡ 65536
+
 -- an APDU that is a segment, its parameters within its octets
 pub record Segmented (m : Parts) (a : List ℕ) : Type 0 where
   pub seg : m .segment .seg ≡ true
@@ -95,3 +101,8 @@ abbrev pub Named : Step → List ℕ → Type 0
 Named (Refused n) area = Unit {0}
 Named (Held i total) area = Unit {0}
 Named (Complete i total) area = room * i + total ≤ length area
+
+-- a segment taken, r its answer and the slots behind it: a completed message lies in the area, and with the report of the answer the frame has done all that it does
+pub record Takes (w : Heard) (v : Route) (m : Parts) (a : List ℕ) (t : Slots) (area : List ℕ) (r : Taken) (area′ : List ℕ) : Type 0 where
+  pub named : Named (r .answer) area′
+  pub acted : (report : List ℕ) → report ≡ reportOctets (stepReport w m (r .answer) area′) → Acted (acting w (Content.message v m a) (view t) area) (r .slots) report area′

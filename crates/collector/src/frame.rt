@@ -12,6 +12,7 @@ use rebuild::Key;
 use rebuild::Segment;
 use rebuild::Slots;
 use rebuild::Step;
+use rebuild::Taken;
 use reports::Frame;
 use reports::Report;
 ghost use mathlib.Core.Path.{_≡_};
@@ -27,7 +28,7 @@ ghost use Rattle.reports.specs.Layout.{reportSize, reportOctets};
 ghost use Rattle.reports.specs.Kinds.{damaged, refusal};
 ghost use Rattle.collector.specs.Heard.{heardOf, routeOf};
 ghost use Rattle.collector.specs.Frame.{Content, byTags, stepReport, npduContent, apduContent, contentOf};
-ghost use Rattle.collector.specs.Acting.{acting, carrying, Carries, Named, Segmented, Acted, ActedAlone, SaidBehind, Lent, HearsAs, HearsBehind, Hears};
+ghost use Rattle.collector.specs.Acting.{acting, carrying, Carries, Named, Seated, Segmented, Takes, Acted, ActedAlone, SaidBehind, Lent, HearsAs, HearsBehind, Hears};
 
 // Kind 2: damage.
 pub fn put_damage(out: &mut [u8], n: u8)
@@ -63,7 +64,7 @@ fn put_by_tags(out: &mut [u8], params: &[u8], r: Report)
 }
 
 // The report of a segment, from its answer and the area after it.
-fn put_answer(w: Heard, m: Parts, step: Step, out: &mut [u8], area: &[u8])
+pub fn put_answer(w: Heard, m: Parts, step: Step, out: &mut [u8], area: &[u8])
     requires { ⌜ (length (now out) ≡ reportSize) × Named step (now area) ⌝ }
     ensures { λ _. ⌜ now (out .exit) ≡ reportOctets (stepReport w m step (now (area .entry))) ⌝ }
 {
@@ -88,18 +89,10 @@ fn put_answer(w: Heard, m: Parts, step: Step, out: &mut [u8], area: &[u8])
     }
 }
 
-// A segment, with the addresses of its network header: rebuilding, then its report.
-fn act_segment(
-    w: Heard,
-    v: Route,
-    m: Parts,
-    a: &[u8],
-    slots: Slots,
-    out: &mut [u8],
-    area: &mut [u8],
-) -> Slots
-    requires { ⌜ Lent (now out) slots (now area) × Segmented m (now a) ⌝ }
-    ensures { λ r. ⌜ Acted (acting w (Content.message v m (now (a .entry))) (view slots) (now (area .entry))) r (now (out .exit)) (now (area .exit)) ⌝ }
+// A segment, with the addresses of its network header: rebuilding alone. Its report is put behind it (`put_answer`), so that the slots are off the stack when tags are judged.
+pub fn take(w: Heard, v: Route, m: Parts, a: &[u8], slots: Slots, area: &mut [u8]) -> Taken
+    requires { ⌜ Seated slots (now area) × Segmented m (now a) ⌝ }
+    ensures { λ r. ⌜ Takes w v m (now (a .entry)) slots (now (area .entry)) r (now (area .exit)) ⌝ }
 {
     let frame = w.frame;
     let apdu = m.apdu;
@@ -120,7 +113,23 @@ fn act_segment(
         choice: apdu.choice,
     };
     let at = m.params;
-    let t = rebuild::take(slots, g, &a[at..], area);
+    rebuild::take(slots, g, &a[at..], area)
+}
+
+// A segment: rebuilding, then its report.
+fn act_segment(
+    w: Heard,
+    v: Route,
+    m: Parts,
+    a: &[u8],
+    slots: Slots,
+    out: &mut [u8],
+    area: &mut [u8],
+) -> Slots
+    requires { ⌜ Lent (now out) slots (now area) × Segmented m (now a) ⌝ }
+    ensures { λ r. ⌜ Acted (acting w (Content.message v m (now (a .entry))) (view slots) (now (area .entry))) r (now (out .exit)) (now (area .exit)) ⌝ }
+{
+    let t = take(w, v, m, a, slots, area);
     let step = t.answer;
     put_answer(w, m, step, out, area);
     t.slots
@@ -214,25 +223,6 @@ pub fn hear(edition: Edition, head: [u8; 5], payload: &[u8], out: &mut [u8]) -> 
     hear_npdu(w, payload, out)
 }
 
-// A segment that was heard: rebuilding, then its report.
-pub fn collect(
-    edition: Edition,
-    head: [u8; 5],
-    t: Told,
-    a: &[u8],
-    slots: Slots,
-    out: &mut [u8],
-    area: &mut [u8],
-) -> Slots
-    requires { ⌜ Lent (now out) slots (now area) × Segmented (t .parts) (now a) ⌝ }
-    ensures { λ r. ⌜ Acted (acting (heardOf edition head) (Content.message (t .route) (t .parts) (now (a .entry))) (view slots) (now (area .entry))) r (now (out .exit)) (now (area .exit)) ⌝ }
-{
-    let w = heard::heard_of(edition, head);
-    let v = t.route;
-    let m = t.parts;
-    act_segment(w, v, m, a, slots, out, area)
-}
-
 // A good frame of type 5 or 6: its head and its data, read by an edition.
 pub fn act(
     edition: Edition,
@@ -250,8 +240,10 @@ pub fn act(
     let part = m.segment;
     let seg = part.seg;
     if seg {
+        let w = heard::heard_of(edition, head);
+        let v = t.route;
         let at = t.at;
-        return collect(edition, head, t, &payload[at..], slots, out, area);
+        return act_segment(w, v, m, &payload[at..], slots, out, area);
     }
     slots
 }

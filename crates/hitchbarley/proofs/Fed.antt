@@ -18,15 +18,18 @@ use Rattle.frames.specs.Step as Frames
 use Rattle.frames.specs.Step.{lengthOf, soundOf, feedOf}
 use Rattle.rebuild.specs.View.{view}
 use Rattle.rebuild.specs.declared.Slots.{Slots}
-use Rattle.reports.specs.Layout.{reportSize}
+use Rattle.rebuild.specs.declared.Taken.{Taken}
+use Rattle.reports.specs.Layout.{reportSize, reportOctets}
 use Rattle.collector.specs.Heard.{heardOf}
-use Rattle.collector.specs.Frame.{Content, contentOf, damageOctets}
+use Rattle.collector.specs.Frame.{Content, contentOf, stepReport, damageOctets}
 use Rattle.collector.specs.Frame.Content.{message}
-use Rattle.collector.specs.Acting.{acting, carrying, Acted, ActedAlone, Carries, Lent, Segmented, Hears}
+use Rattle.collector.specs.Acting.{acting, carrying, Acted, ActedAlone, Carries, Lent, Seated, Segmented, Takes, Hears}
 use Rattle.collector.specs.Calls.{passing, slotsOf}
 use Rattle.collector.specs.Lent.{over}
 use Rattle.collector.specs.declared.Collector.{Collector}
+use Rattle.collector.specs.declared.heard.Heard.{Heard}
 use Rattle.collector.specs.declared.heard.Told.{Told}
+use Rattle.collector.proofs.Actions.{lent-seated, takes-acted}
 use Rattle.collector.proofs.Answers.{data-fits, payload-fits}
 use Rattle.collector.proofs.Eaten.{eats-slots, eats-quiet, eats-damage, eats-carried}
 use Rattle.collector.proofs.Hearing.{heard-line, heard-inside, heard-alone}
@@ -285,9 +288,11 @@ module _ (o report area : List ℕ) {t : Told} (p : Heeded o report area t) {h :
   pub part-segmented : Segmented (t .parts) rest
   part-segmented = subst (Segmented (t .parts)) same-rest (p .segmented)
 
-  pub part-lent : {u : Slots} → u ≡ stateAt o .slots → Lent report u area
-  part-lent f = rw f (p .framed .lent)
+  pub part-seated : {u : Slots} → u ≡ stateAt o .slots → Seated u area
+  part-seated f = rw f (lent-seated (p .framed .lent))
 
-  pub part-acts : {x : Edition} {u v : Slots} {r : ℕ} {o′ report′ area′ : List ℕ} → x ≡ editionOf (editionAt o) → u ≡ stateAt o .slots
-      → Acted (acting (heardOf x h) (message (t .route) (t .parts) rest) (view u) area) v report′ area′ → LaysSlots v o r o′ → SegmentActs o area t o′ report′ area′
-  part-acts {v = v} {r = r} d f a l = record { slots = v; acted = rw (d, f, e, ← same-rest) at a; number = r; laid = l }
+  -- w is what the frame hands down, and k what rebuilding gave
+  pub part-acts : {x : Edition} {w : Heard} {u : Slots} {k : Taken} {r : ℕ} {o′ report′ area′ : List ℕ} → x ≡ editionOf (editionAt o) → w ≡ heardOf x h → u ≡ stateAt o .slots
+      → Takes w (t .route) (t .parts) rest u area k area′ → LaysSlots (k .slots) o r o′ → report′ ≡ reportOctets (stepReport w (t .parts) (k .answer) area′)
+      → SegmentActs o area t o′ report′ area′
+  part-acts {k = k} {r = r} d z f y l q = record { slots = k .slots; acted = rw (z, d, f, e, ← same-rest) at (takes-acted y q); number = r; laid = l }

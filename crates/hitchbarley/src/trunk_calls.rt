@@ -1,6 +1,7 @@
 // One trunk: its state is octets that the caller lends.
 use collector::Collector;
 use collector::frame;
+use collector::heard;
 use collector::heard::Told;
 use collector::lent;
 use frames::Outcome;
@@ -28,9 +29,15 @@ fn segment(state: &mut [u8], t: Told, report: &mut [u8], area: &mut [u8])
     let end = state::STORE + (frames::length_of(head) as usize);
     let from = state::STORE + t.at;
     let edition = state::edition_of(state[state::EDITION]);
+    let w = heard::heard_of(edition, head);
+    let v = t.route;
+    let m = t.parts;
     let slots = state::slots_at(state);
-    let slots = frame::collect(edition, head, t, &state[from..end], slots, report, area);
+    let r = frame::take(w, v, m, &state[from..end], slots, area);
+    let slots = r.slots;
     state::lay_slots(slots, state);
+    let step = r.answer;
+    frame::put_answer(w, m, step, report, area);
 }
 
 // A good frame, whose head and data stand in the state area.

@@ -1,3 +1,4 @@
+use Rattle.collector.proofs.Actions.{acted-heard}
 use Rattle.collector.proofs.Hearing.{heard-line, heard-inside, heard-segment, heard-alone, heard-collected}
 use borrow.Author.Needs.{needs}
 use Rattle.collector.proofs.frame.act.Statement.{statement}
@@ -8,12 +9,13 @@ act-spec =
     tie.close
     (tie.spec
     (λ c κs. search needs)
+    (λ c κs. search needs)
     (λ c. search (needs, heard-inside))
     (λ c. search (needs, heard-inside))
     (λ c. search needs)
     (λ c κs. search (needs, heard-line, heard-segment))
     (λ c. search needs)
     (λ c. search needs)
-    (λ c. search (needs, heard-collected))
+    (λ c. search (needs, heard-collected, acted-heard))
     (λ c. search needs)
     (λ c. search (needs, heard-alone)))
