@@ -9,7 +9,8 @@
      routed        eight devices behind two routers, four logs at once; the invoke IDs of all are one
      damaged [N]   N-th random mixture of good, damaged, refused and segmented traffic, silences and forget orders
      requests [N]  the same with more confirmed requests, most of them with a code of segments accepted (bits 6 to 4 of their second octet)
-     crossed [N]   the same as damaged, each conversation behind a network header of its own: without addresses, from a device, from one to one
+     crossed [N]   the same as damaged, but three conversations at a time have one source, type and invoke ID, and mostly a network header that
+                   tells them apart: without addresses, from a device, from one to one
      flat N        one segmented message of N items side by side; a silence stands before its last segment
      nested N      the same, sixteen deep
      message N     one segmented message of N octets; the same */
@@ -368,7 +369,7 @@ static int own_network(uint8_t *s, int key)
     return n;
 }
 
-/* Six conversations over four slots; some lose a segment, repeat one, change their choice, or come from elsewhere. */
+/* Six conversations over four slots; some lose a segment, repeat one, change their choice. Crossed, three at a time are told apart by their network headers alone. */
 static int next_number[6], crossed;
 static int some_segment(uint8_t *s, int key)
 {
@@ -382,10 +383,10 @@ static int some_segment(uint8_t *s, int key)
         for (int i = 0; i < whole; i++) item((const uint8_t[]){0x44, 1, 2, 3, 4}, 5);
     }
     int length = text_length < 400 ? text_length : 400;
-    int kind = key % 2 ? 0x30 : 0x00;
+    int front = crossed ? key / 3 : key, kind = front % 2 ? 0x30 : 0x00;
     s[n++] = (uint8_t)(kind | 8 | (more ? 4 : 0));
     if (kind == 0) s[n++] = second(5);
-    s[n++] = (uint8_t)(key / 2);
+    s[n++] = (uint8_t)(front / 2);
     s[n++] = (uint8_t)number;
     s[n++] = (uint8_t)(1 + below(127));
     s[n++] = (uint8_t)(below(30) ? 12 : 15);

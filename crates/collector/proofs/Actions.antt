@@ -70,16 +70,8 @@ module _ (w : Heard) (v : Route) (m : Parts) (a : List ℕ) where
   acts-segment s area e =
       ap (λ (y : Option (Messages.Segment Key)). actOn keys (contents w) y (message v m a) s area) (given-true (m .segment .seg) (some (segmentFrom w v m a)) none e)
 
--- ---- a segment: what rebuilding gives, and the report of its answer
+-- ---- a segment: what rebuilding gives, and a completed message lies in the area
 module _ (t : Slots) (g : Segment) (o area : List ℕ) (z : length area ≡ 65536) {r : Taken} {later : List ℕ} (h : Gives (taking t g o area) r later) where
-  pub segment-acted : (w : Heard) (v : Route) (m : Parts) (a : List ℕ) {report : List ℕ} → m .segment .seg ≡ true → View.segmentOf g o ≡ segmentFrom w v m a
-      → report ≡ reportOctets (stepReport w m (r .answer) later) → Acted (acting w (message v m a) (view t) area) (r .slots) report later
-  segment-acted w v m a is e q =
-      let d = Rows.rebuild keys (segmentFrom w v m a) (boxed (view t) area) in
-      let k : Gives d r later = gives-by (sym (taking-on t g o area z ∙ ap (λ (x : Messages.Segment Key). Rows.rebuild keys x (boxed (view t) area)) e)) h in
-      rw (acts-segment w v m a (view t) area is) (record { said = q ∙ rw (k .answer, k .area); slots = k .slots; left = k .area })
-
-  -- a completed message lies in the area
   named-by : passes keys 4 (view t) ≡ true → (w : Step) → r .answer ≡ w → Named w later
   named-by f (Refused n) e = tt
   named-by f (Held i n) e = tt
@@ -88,21 +80,23 @@ module _ (t : Slots) (g : Segment) (o area : List ℕ) (z : length area ≡ 6553
       let l = take-sized t area f z g o h in
       omega arith
 
-  pub named : passes keys 4 (view t) ≡ true → Named (r .answer) later
-  named f = named-by f (r .answer) refl
+  pub segment-taken : passes keys 4 (view t) ≡ true → (w : Heard) (v : Route) (m : Parts) (a : List ℕ) → View.segmentOf g o ≡ segmentFrom w v m a → Takes w v m a t area r later
+  segment-taken f w v m a e =
+      record {
+        named = named-by f (r .answer) refl;
+        gives = gives-by (sym (taking-on t g o area z ∙ ap (λ (x : Messages.Segment Key). Rows.rebuild keys x (boxed (view t) area)) e)) h;
+      }
 
-  -- both together
-  pub segment-taken : passes keys 4 (view t) ≡ true → (w : Heard) (v : Route) (m : Parts) (a : List ℕ) → m .segment .seg ≡ true → View.segmentOf g o ≡ segmentFrom w v m a
-      → Takes w v m a t area r later
-  segment-taken f w v m a is e = record { named = named f; acted = λ report q. segment-acted w v m a is e q }
-
--- what a frame's function is lent is enough for rebuilding alone; and a segment taken and reported is done
+-- what a frame's function is lent is enough for rebuilding alone
 pub lent-seated : {report : List ℕ} {t : Slots} {area : List ℕ} → Lent report t area → Seated t area
 lent-seated l = record { fair = l .fair; sized = l .sized }
 
-pub takes-acted : {w : Heard} {v : Route} {m : Parts} {a : List ℕ} {t : Slots} {area : List ℕ} {r : Taken} {later report : List ℕ} → Takes w v m a t area r later
+-- a segment taken, and its answer reported: all that the frame does
+pub takes-acted : {w : Heard} {v : Route} {m : Parts} {a : List ℕ} {t : Slots} {area : List ℕ} {r : Taken} {later report : List ℕ} → m .segment .seg ≡ true → Takes w v m a t area r later
     → report ≡ reportOctets (stepReport w m (r .answer) later) → Acted (acting w (message v m a) (view t) area) (r .slots) report later
-takes-acted h q = h .acted _ q
+takes-acted {w} {v} {m} {a} {t} {area} is h q =
+    let k = h .gives in
+    rw (acts-segment w v m a (view t) area is) (record { said = q ∙ rw (k .answer, k .area); slots = k .slots; left = k .area })
 
 -- ---- a good frame of another type than 5 and 6; by what the code asks, one that carries no network header
 frame-other : (w : Heard) (payload : List ℕ) (t : Slots) (area : List ℕ) {report : List ℕ} → (w .frame .kind ≡ 5 → ⊥) → (w .frame .kind ≡ 6 → ⊥)

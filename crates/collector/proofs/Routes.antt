@@ -5,7 +5,7 @@ use mathlib.Core.Path.{_≡_, refl, ap}
 use mathlib.Core.Bool.{Bool, true, false}
 use mathlib.Core.List.{List, _++_}
 use lib.Dec.{ltb, leb, eqb}
-use lib.ListN.{length, take, drop, length-drop}
+use lib.ListN.{length, drop, length-drop}
 use borrow.Author.Tests.{leb-false, ltb-false, eqb-true, eqb-false}
 use Rattle.octets.specs.Choice.{non, pick-case, pick-cases, given, by-test, not-so}
 use Rattle.octets.specs.Reading.{oct, be16, refuse}

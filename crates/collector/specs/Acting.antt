@@ -10,8 +10,10 @@ use Rattle.octets.specs.Reading.{oct}
 use Rattle.apdu.specs.declared.Edition.{Edition}
 use Rattle.messages.specs.Slots as Messages
 use Rattle.messages.specs.Slots.{room}
+use Rattle.messages.specs.Rows.{rebuild}
 use Rattle.messages.specs.Sound.{passes}
 use Rattle.rebuild.specs.View.{keys, view}
+use Rattle.rebuild.specs.Calls.{Gives}
 use Rattle.rebuild.specs.declared.Key.{Key}
 use Rattle.rebuild.specs.declared.Slots.{Slots}
 use Rattle.rebuild.specs.declared.Step.{Step}
@@ -20,7 +22,7 @@ use Rattle.rebuild.specs.declared.Taken.{Taken}
 use Rattle.recordings.specs.Frames.{actOn}
 use Rattle.reports.specs.Layout.{reportSize, reportOctets}
 use Rattle.collector.specs.Heard.{heardOf, Route}
-use Rattle.collector.specs.Frame.{Content, segmentIn, plainReport, stepReport, contents, contentOf}
+use Rattle.collector.specs.Frame.{Content, segmentFrom, segmentIn, plainReport, contents, contentOf}
 use Rattle.collector.specs.declared.heard.Heard.{Heard}
 use Rattle.collector.specs.declared.heard.Parts.{Parts}
 use Rattle.collector.specs.declared.heard.Told.{Told}
@@ -102,7 +104,7 @@ Named (Refused n) area = Unit {0}
 Named (Held i total) area = Unit {0}
 Named (Complete i total) area = room * i + total ≤ length area
 
--- a segment taken, r its answer and the slots behind it: a completed message lies in the area, and with the report of the answer the frame has done all that it does
+-- a segment taken, its report still to come: what rebuilding gives of the segment that the frame carries; and a completed message lies in the area
 pub record Takes (w : Heard) (v : Route) (m : Parts) (a : List ℕ) (t : Slots) (area : List ℕ) (r : Taken) (area′ : List ℕ) : Type 0 where
   pub named : Named (r .answer) area′
-  pub acted : (report : List ℕ) → report ≡ reportOctets (stepReport w m (r .answer) area′) → Acted (acting w (Content.message v m a) (view t) area) (r .slots) report area′
+  pub gives : Gives (rebuild keys (segmentFrom w v m a) (Messages.boxed (view t) area)) r area′

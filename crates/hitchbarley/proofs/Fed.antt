@@ -228,9 +228,6 @@ module _ (o report area : List ℕ) (p : Framed o report area) {h : List ℕ} {m
   pub frame-carries : {b c : Bool} → b ≡ carrying (oct h 0) → b ≡ c → Carries c h cutOut
   frame-carries d t = record { carries = sym d ∙ t; short = data-short }
 
-  pub frame-lent : {t : Slots} → t ≡ stateAt o .slots → Lent report t area
-  frame-lent d = rw d (p .lent)
-
   -- of type 5 or 6, and heard: t is what it told
   module _ {x : Edition} (d : x ≡ editionOf (editionAt o)) {t : Told} {report′ : List ℕ} (y : Hears (heardOf x h) cutOut report t report′) where
     -- it is no segment: the slots are those that were there
@@ -295,4 +292,4 @@ module _ (o report area : List ℕ) {t : Told} (p : Heeded o report area t) {h :
   pub part-acts : {x : Edition} {w : Heard} {u : Slots} {k : Taken} {r : ℕ} {o′ report′ area′ : List ℕ} → x ≡ editionOf (editionAt o) → w ≡ heardOf x h → u ≡ stateAt o .slots
       → Takes w (t .route) (t .parts) rest u area k area′ → LaysSlots (k .slots) o r o′ → report′ ≡ reportOctets (stepReport w (t .parts) (k .answer) area′)
       → SegmentActs o area t o′ report′ area′
-  part-acts {k = k} {r = r} d z f y l q = record { slots = k .slots; acted = rw (z, d, f, e, ← same-rest) at (takes-acted y q); number = r; laid = l }
+  part-acts {k = k} {r = r} d z f y l q = record { slots = k .slots; acted = rw (z, d, f, e, ← same-rest) at (takes-acted (p .segmented .seg) y q); number = r; laid = l }

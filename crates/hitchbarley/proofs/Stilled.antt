@@ -9,7 +9,6 @@ use native.Mathlib.Omega.{arith}
 use borrow.Author.Tests.{eqb-true}
 use Rattle.octets.specs.Choice.{by-test, not-so}
 use Rattle.octets.specs.Reading.{Octets}
-use Rattle.apdu.specs.declared.Edition.{Edition}
 use Rattle.frames.specs.Step.{soundOf, stilledOf}
 use Rattle.rebuild.specs.View.{view}
 use Rattle.reports.specs.Layout.{reportSize}

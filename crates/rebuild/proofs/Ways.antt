@@ -115,6 +115,15 @@ module _ (t : Slots) (s : ℕ) (w : Looking (Messages.isFree keys) t 0 s) where
     pub free-on : not (getD (t .slots) s blank .used) ≡ false → Looking (Messages.isFree keys) t 0 (s + 1)
     free-on n = let k = w .four in passes-by (Messages.isFree keys) t 0 s w h (free-at t s (omega arith) true (not-false _ n))
 
+-- a slot whose key has another invoke ID than k is not open to k
+module _ (k : Key) (t : Slots) (start s : ℕ) (w : Looking (Messages.openTo keys k) t start s) (h : s < 4) where
+  pub looks-other : (getD (t .slots) s blank .key .invoke ≡ k .invoke → ⊥) → Looking (Messages.openTo keys k) t start (s + 1)
+  unfolding sameKey
+  looks-other n =
+      let x = getD (t .slots) s blank in
+      let e : Messages.openTo keys k (seen x) ≡ false = rw (ne-eqb (x .key .invoke) (k .invoke) n) (both-false (x .used)) in
+      looks-on (Messages.openTo keys k) t start s w h false (sym e) refl
+
 -- what a search of the four slots finds is one of them
 pub found-here : (p : Messages.Slot Key → Bool) (t : Slots) (f : Found) → f ≡ found 0 (Messages.lowest p (view t))
     → (s : ℕ) → f ≡ At s → length (t .slots) ≡ 4 → s < 4

@@ -119,7 +119,7 @@ pub fn strange(x: Slot) -> bool
     true
 }
 
-// Whether slot s is open and a later open slot has its key.
+// Whether slot s is open and a later open slot has its key. (A loop of its own, and not `open_slot`: the slots stay where they are, and keys with other invoke IDs are passed at once.)
 pub fn twice(t: Slots, s: usize) -> bool
     requires { ⌜ s < 4 ⌝ }
     ensures { λ r. ⌜ r ≡ Sound.twice keys (slotAt keys (view t) s) (drop (s + 1) (view t)) ⌝ }
@@ -130,8 +130,16 @@ pub fn twice(t: Slots, s: usize) -> bool
         return false;
     }
     let k = x.key;
-    match open_slot(t, k, s + 1) {
-        Found::At(_) => true,
-        Found::Nothing => false,
+    let mut j = s + 1;
+    while j < 4 {
+        let y = t.slots[j];
+        let l = y.key;
+        if l.invoke == k.invoke {
+            if open_to(y, k) {
+                return true;
+            }
+        }
+        j += 1;
     }
+    false
 }

@@ -22,7 +22,7 @@ use Rattle.state.specs.Link.{linkGood, linkOf}
 use Rattle.state.specs.Edition.{editionGood}
 use Rattle.state.specs.Layout.{stateSize, editionPlace, linkPart, editionAt}
 use Rattle.state.specs.Calls.{goodAt, slotsGood, stateGood, slotAt, slotsAt, stateAt, fairOf, judgeOf, Stands}
-use Rattle.state.specs.Judging.{linkFair, slotFair, slotsFair, oneKey, apart, apartFrom, alone, pairsFair, AllFree}
+use Rattle.state.specs.Judging.{linkFair, slotFair, slotsFair, oneKey, apart, apartFrom, alone, pairsFair, AllFair}
 
 -- ---- whether keys are the same does not depend on which is asked first
 same-turned : (a b : Key) → sameKey a b ≡ true → sameKey b a ≡ true
@@ -119,7 +119,7 @@ module _ (o : List ℕ) where
         judge-by d = rw (eq-eqb (length o) stateSize size, fair-parts o, ← e, t, le-leb (oct o editionPlace) 1 h, d)
 
         -- the quick test, and the one that is exact
-        pub judge-free : AllFree o → 0 ≡ judgeOf o
+        pub judge-free : AllFair o → 0 ≡ judgeOf o
         judge-free f = sym (judge-by (true-both _ _ (f .slots) (f .pairs)))
 
         module _ (s : Bool) (d : s ≡ bothFair o) where

@@ -1,5 +1,5 @@
 -- Octets that are an address which a part of a header gives, asked where they stand: an absent one, all 0, and one that keeps the part's rules, 0 past its length.
-use Prim.Native.Nat.{ℕ, zero, suc, _+_, _-_, _*_, _≤_, _<_}
+use Prim.Native.Nat.{ℕ, _+_, _-_, _*_, _≤_, _<_}
 use native.Mathlib.Omega.{arith}
 use mathlib.Core.Path.{_≡_, refl, sym, _∙_}
 use mathlib.Core.Bool.{true, false}

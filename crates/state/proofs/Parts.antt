@@ -2,11 +2,10 @@
 use Prim.Native.Nat.{ℕ, zero, suc, _+_, _-_, _*_, _/_, _%_, _≤_, _<_}
 use native.Mathlib.Omega.{arith}
 use mathlib.Core.Path.{_≡_, refl, sym, ap, _∙_}
-use mathlib.Core.Bool.{Bool, true, false, not}
+use mathlib.Core.Bool.{Bool, true, false}
 use mathlib.Core.List.{List, [], _∷_, _++_}
 use lib.ListN.{length, take, drop, length-drop, take-append-drop}
 use lib.Seq.{drop-cons, drop-drop, take-length, length-take-le}
-use borrow.Author.Tests.{not-true, not-false}
 use Rattle.octets.specs.Choice.{both}
 use Rattle.octets.specs.Reading.{oct, Octets}
 
@@ -63,19 +62,6 @@ both-off a b r e f = rw (← e, f)
 pub both-last : (a r : Bool) → r ≡ a → r ≡ both a true
 both-last true r e = e
 both-last false r e = e
-
--- the same of tests that are denied, and of what is known already
-pub both-known : (a b q : Bool) → a ≡ true → q ≡ b → q ≡ both a b
-both-known a b q t h = rw t h
-
-pub both-denied : (a b r : Bool) → r ≡ a → not r ≡ true → false ≡ both a b
-both-denied a b r e f = both-off a b r e (not-true r f)
-
-pub both-end : (a : Bool) → a ≡ true → true ≡ both a true
-both-end a t = rw t
-
-pub not-denied : (a r : Bool) → r ≡ a → not r ≡ false → a ≡ true
-not-denied a r e f = sym e ∙ not-false r f
 
 -- for `search (needs, one-by-one)`
 pub ruleset one-by-one = (both-on, both-off, both-last)

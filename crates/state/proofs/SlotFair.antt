@@ -20,7 +20,7 @@ use Rattle.collector.specs.Calls.{slotCount}
 use Rattle.state.specs.Slot.{addressAt, frontSize, slotSize, slotGood, slotOf}
 use Rattle.state.specs.Layout.{slotPlace, stateSize, slotPart}
 use Rattle.state.specs.Calls.{goodAt, slotAt}
-use Rattle.state.specs.Judging.{slotFair, slotsFair, alone, pairsFair, Over, NoAddress, AllFree}
+use Rattle.state.specs.Judging.{slotFair, slotsFair, alone, pairsFair, Over, NoAddress, AllFair}
 use Rattle.state.proofs.Parts.{cut-size}
 use Rattle.state.proofs.Fours.{or-left, or-right}
 use Rattle.state.proofs.Address.{address-none, address-within}
@@ -181,7 +181,7 @@ module _ (o : List ℕ) (a b c d : ℕ) (os : Octets o) (free : Over o 0 a) (non
   each-alone i zero h = refl
   each-alone i (suc n) h = rw (slot-used o i (slotPlace i) refl, first-free i (omega arith)) (each-alone (suc i) n (omega arith))
 
-  pub all-free : AllFree o
+  pub all-free : AllFair o
   all-free =
       record {
         slots = all-fair o (λ i l.

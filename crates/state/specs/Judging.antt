@@ -66,6 +66,6 @@ abbrev pub NoAddress : List ℕ → ℕ → Type 0
 NoAddress o at = (k : ℕ) → frontSize ≤ k → k < slotSize → oct o (at + k) ≡ 0
 
 -- nothing is wrong with any slot, or with two of them
-pub record AllFree (o : List ℕ) : Type 0 where
+pub record AllFair (o : List ℕ) : Type 0 where
   pub slots : slotsFair o 0 slotCount ≡ true
   pub pairs : pairsFair o 0 slotCount ≡ true

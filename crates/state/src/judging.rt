@@ -13,7 +13,7 @@ ghost use Rattle.octets.specs.Choice.{both};
 ghost use Rattle.npdu.specs.Address.{gives};
 ghost use Rattle.state.specs.Slot.{addressSize, addressAt, slotSize};
 ghost use Rattle.state.specs.Layout.{stateSize};
-ghost use Rattle.state.specs.Judging.{linkFair, slotFair, slotsFair, apart, pairsFair, Over, fourAt, NoAddress, AllFree};
+ghost use Rattle.state.specs.Judging.{linkFair, slotFair, slotsFair, apart, pairsFair, Over, fourAt, NoAddress, AllFair};
 
 // The link: a phase, a count that it can have, and something left to come, in data with a length of 1 to 501.
 pub fn link_fair(o: &[u8]) -> bool
@@ -56,7 +56,7 @@ fn over(o: &[u8], k: usize) -> u8
 // Quick, and enough: no slot is open, presence octets are 0 or 1, and all hold less than 16,384.
 pub fn all_free(o: &[u8]) -> bool
     requires { ⌜ length (now o) ≡ stateSize ⌝ }
-    ensures { λ r. ⌜ (r ≡ true → AllFree (now (o .entry))) ⌝ }
+    ensures { λ r. ⌜ (r ≡ true → AllFair (now (o .entry))) ⌝ }
 {
     if over(o, 0) != 0 {
         return false;

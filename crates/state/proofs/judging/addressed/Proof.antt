@@ -1,4 +1,3 @@
-use denote.Ref.{now}
 use Rattle.state.proofs.Fours.{addressed-none}
 use borrow.Author.Needs.{needs}
 use Rattle.state.proofs.judging.addressed.Statement.{statement}

@@ -1,4 +1,3 @@
-use Rattle.octets.specs.Choice.{not-so}
 use Rattle.state.proofs.Pairs.{pairs-apart}
 use borrow.Author.Needs.{needs}
 use Rattle.state.proofs.judging.any_alike.Statement.{statement}
