@@ -1,4 +1,4 @@
-// Whether the octets of a state's size are a state that 59 passes, judged where they stand.
+// Whether the octets of a state's size are a state that 59 passes: judged where they stand by quick tests, and the slots lifted where these do not say yes.
 use crate::SLOT;
 use crate::SLOTS;
 use crate::loading;
