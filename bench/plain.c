@@ -155,7 +155,12 @@ static int network_part(const uint8_t *s, size_t n, size_t at, unsigned least, u
     return (int)(at + 3 + length);
 }
 
-static int network_header(const uint8_t *s, size_t n, int *message)
+/* The two parts of a network header as they stand in its octets, NULL where one is absent. */
+struct route {
+    const uint8_t *to, *from;
+};
+
+static int network_header(const uint8_t *s, size_t n, int *message, struct route *v)
 {
     if (n < 1) return -10;
     if (s[0] != 1) return -11;
@@ -163,7 +168,9 @@ static int network_header(const uint8_t *s, size_t n, int *message)
     unsigned control = s[1];
     if (control & 0x50) return -12;
     int at = 2;
+    v->to = control & 0x20 ? s + at : NULL;
     if (control & 0x20 && (at = network_part(s, n, (size_t)at, 0, 65535)) < 0) return at;
+    v->from = control & 0x08 ? s + at : NULL;
     if (control & 0x08 && (at = network_part(s, n, (size_t)at, 1, 65534)) < 0) return at;
     if (control & 0x20) {
         if (n <= (size_t)at) return -10;
@@ -286,11 +293,33 @@ static void message(const struct plain *p, uint8_t *r, unsigned kind, unsigned f
 
 /* ---- rebuilding */
 
-static struct plain_slot *slot_of(struct plain *p, const struct apdu *a)
+/* Whether an address is the one of a header's part: its octets with its length. */
+static int same_address(const struct plain_address *a, const uint8_t *part)
+{
+    if (!part) return !a->here;
+    if (!a->here || a->net != (part[0] << 8 | part[1]) || a->length != part[2]) return 0;
+    for (int i = 0; i < a->length; i++)
+        if (a->octets[i] != part[3 + i]) return 0;
+    return 1;
+}
+
+static struct plain_address address_of(const uint8_t *part)
+{
+    struct plain_address a = {0};
+    if (!part) return a;
+    a.here = 1;
+    a.net = (uint16_t)(part[0] << 8 | part[1]);
+    a.length = part[2];
+    for (int i = 0; i < a.length; i++) a.octets[i] = part[3 + i];
+    return a;
+}
+
+static struct plain_slot *slot_of(struct plain *p, const struct route *v, const struct apdu *a)
 {
     for (int i = 0; i < 4; i++) {
         struct plain_slot *s = &p->slots[i];
-        if (s->used && s->source == p->source && s->destination == p->destination && s->kind == a->kind && s->invoke == a->invoke) return s;
+        if (s->used && s->source == p->source && s->destination == p->destination && s->kind == a->kind && s->invoke == a->invoke &&
+            same_address(&s->from, v->from) && same_address(&s->to, v->to)) return s;
     }
     return NULL;
 }
@@ -303,10 +332,10 @@ static struct plain_slot *free_slot(struct plain *p)
 }
 
 /* A segment: its refusal number, or 0 and the report is made. */
-static int segment(struct plain *p, unsigned first, const struct apdu *a, const uint8_t *octets, size_t n, uint8_t *r, uint8_t *area)
+static int segment(struct plain *p, const struct route *v, unsigned first, const struct apdu *a, const uint8_t *octets, size_t n, uint8_t *r, uint8_t *area)
 {
     static const struct plain_slot nothing;
-    struct plain_slot *s = slot_of(p, a);
+    struct plain_slot *s = slot_of(p, v, a);
     if (a->number != 0) {
         if (!s) return 51;
         if (a->number != s->next) return 52;
@@ -322,7 +351,7 @@ static int segment(struct plain *p, unsigned first, const struct apdu *a, const 
     } else {
         if (!s) s = free_slot(p);
         if (!s) return 50;
-        *s = (struct plain_slot){1, p->source, p->destination, (uint8_t)a->kind, (uint8_t)a->invoke, 0, (uint8_t)a->choice, 0};
+        *s = (struct plain_slot){1, p->source, p->destination, (uint8_t)a->kind, (uint8_t)a->invoke, 0, (uint8_t)a->choice, 0, address_of(v->from), address_of(v->to)};
     }
     unsigned i = (unsigned)(s - p->slots);
     uint8_t *from = area + (size_t)ROOM * i;
@@ -343,12 +372,12 @@ static int segment(struct plain *p, unsigned first, const struct apdu *a, const 
 
 /* ---- a good frame */
 
-static int apdu_frame(struct plain *p, const uint8_t *s, size_t n, uint8_t *r, uint8_t *area)
+static int apdu_frame(struct plain *p, const struct route *v, const uint8_t *s, size_t n, uint8_t *r, uint8_t *area)
 {
     struct apdu a;
     int refused = apdu_header(s, n, p->later, &a);
     if (refused) return refused;
-    if (a.seg) return segment(p, s[0], &a, s + a.at, n - a.at, r, area);
+    if (a.seg) return segment(p, v, s[0], &a, s + a.at, n - a.at, r, area);
     int items = plain_items(s + a.at, n - a.at);
     if (items < 0) return -items;
     message(p, r, 3, s[0], &a, 0, (uint32_t)n);
@@ -357,9 +386,10 @@ static int apdu_frame(struct plain *p, const uint8_t *s, size_t n, uint8_t *r, u
 
 static int bacnet_frame(struct plain *p, uint8_t *r, uint8_t *area)
 {
-    int network = 0, at = network_header(p->store, p->length, &network);
+    struct route v;
+    int network = 0, at = network_header(p->store, p->length, &network, &v);
     if (at < 0) return -at;
-    if (!network) return apdu_frame(p, p->store + at, (size_t)(p->length - at), r, area);
+    if (!network) return apdu_frame(p, &v, p->store + at, (size_t)(p->length - at), r, area);
     headed(p, r, 7, 0);
     sized(r, (uint32_t)(p->length - at));
     return 0;

@@ -6,9 +6,17 @@
 #include <stddef.h>
 #include <stdint.h>
 
+/* Where a message comes from or goes, behind a router: whether the network header says it, the network, and an address of as many octets as its length. */
+struct plain_address {
+    uint8_t here, length;
+    uint16_t net;
+    uint8_t octets[7];
+};
+
 struct plain_slot {
     uint8_t used, source, destination, kind, invoke, next, choice;
     uint16_t held;
+    struct plain_address from, to;
 };
 
 struct plain {

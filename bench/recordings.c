@@ -6,8 +6,11 @@
      readings      the same masters, and at every second token one reads a chamber's voltage and is answered
      full          frames with 501 data octets
      segmented     logs on four keys at once, each of five segments
+     routed        eight devices behind two routers, four logs at once; the invoke IDs of all are one
      damaged [N]   N-th random mixture of good, damaged, refused and segmented traffic, silences and forget orders
      requests [N]  the same with more confirmed requests, most of them with a code of segments accepted (bits 6 to 4 of their second octet)
+     crossed [N]   the same as damaged, but three conversations at a time have one source, type and invoke ID, and mostly a network header that
+                   tells them apart: without addresses, from a device, from one to one
      flat N        one segmented message of N items side by side; a silence stands before its last segment
      nested N      the same, sixteen deep
      message N     one segmented message of N octets; the same */
@@ -88,13 +91,21 @@ static void send(int type, int to, int from, const uint8_t *data, int n)
     put(frame, frame_length);
 }
 
-/* One segment of a complex ack behind a network header without addresses. */
+/* One segment of a complex ack; the octets after it. */
+static int ack(uint8_t *data, int invoke, int number, int more, int choice, const uint8_t *octets, int n)
+{
+    const uint8_t head[5] = {(uint8_t)(more ? 0x3C : 0x38), (uint8_t)invoke, (uint8_t)number, 8, (uint8_t)choice};
+    memcpy(data, head, 5);
+    memcpy(data + 5, octets, (size_t)n);
+    return n + 5;
+}
+
+/* The same behind a network header without addresses. */
 static int segment(uint8_t *data, int invoke, int number, int more, int choice, const uint8_t *octets, int n)
 {
-    const uint8_t head[7] = {0x01, 0x00, (uint8_t)(more ? 0x3C : 0x38), (uint8_t)invoke, (uint8_t)number, 8, (uint8_t)choice};
-    memcpy(data, head, 7);
-    memcpy(data + 7, octets, (size_t)n);
-    return n + 7;
+    data[0] = 0x01;
+    data[1] = 0x00;
+    return 2 + ack(data + 2, invoke, number, more, choice, octets, n);
 }
 
 /* ---- items */
@@ -192,6 +203,23 @@ static void segmented(void)
             int size = segment(data, 10 + key, number, number < 4, 14, text + from, n);
             send(6, 1, 3 + key / 2, data, size);
         }
+}
+
+/* Two rounds of four devices each, two behind each router and on one network: behind router 3 with addresses of one octet, behind router 4 of six. */
+static void routed(void)
+{
+    uint8_t data[501];
+    log_of(2280);
+    for (int round = 0; round < 2; round++)
+        for (int number = 0; number < 5; number++)
+            for (int i = 0; i < 4; i++) {
+                int d = round * 4 + i, far = i / 2, from = number * 460, n = text_length - from < 460 ? text_length - from : 460;
+                const uint8_t short_one[6] = {0x01, 0x08, 0, 10, 1, (uint8_t)(d + 1)}, long_one[11] = {0x01, 0x08, 0, 11, 6, 0xC0, 0xA8, 0x01, (uint8_t)(d + 1), 0xBA, 0xC0};
+                int at = far ? 11 : 6;
+                memcpy(data, far ? long_one : short_one, (size_t)at);
+                int size = at + ack(data + at, 10, number, number < 4, 14, text + from, n);
+                send(6, 1, 3 + far, data, size);
+            }
 }
 
 /* One message in segments of 460 octets, with a silence before the last. */
@@ -329,11 +357,23 @@ static int some_apdu(uint8_t *s)
     return n;
 }
 
-/* Six conversations over four slots; some lose a segment, repeat one, change their choice. */
-static int next_number[6];
+/* The network header of a conversation: without addresses, from a device behind a router, or from one to one. */
+static int own_network(uint8_t *s, int key)
+{
+    const uint8_t near[2] = {0x01, 0x00}, from[6] = {0x01, 0x08, 0, 7, 1, (uint8_t)key};
+    const uint8_t both[13] = {0x01, 0x28, 0, 9, 2, 5, (uint8_t)(key / 5), 0, 7, 2, 5, 0, 255};
+    const uint8_t *head = key % 3 == 0 ? near : key % 3 == 1 ? from : both;
+    int n = key % 3 == 0 ? 2 : key % 3 == 1 ? 6 : 13;
+    memcpy(s, head, (size_t)n);
+    s[1] |= (uint8_t)below(8); /* priority and the reply bit take no part in a key */
+    return n;
+}
+
+/* Six conversations over four slots; some lose a segment, repeat one, change their choice. Crossed, three at a time are told apart by their network headers alone. */
+static int next_number[6], crossed;
 static int some_segment(uint8_t *s, int key)
 {
-    int n = some_network(s);
+    int n = crossed && below(12) ? own_network(s, key) : some_network(s);
     int number = below(12) ? next_number[key] : (int)below(4), more = below(5) != 0;
     if (below(200) == 0) number = 255;
     some_items();
@@ -343,10 +383,10 @@ static int some_segment(uint8_t *s, int key)
         for (int i = 0; i < whole; i++) item((const uint8_t[]){0x44, 1, 2, 3, 4}, 5);
     }
     int length = text_length < 400 ? text_length : 400;
-    int kind = key % 2 ? 0x30 : 0x00;
+    int front = crossed ? key / 3 : key, kind = front % 2 ? 0x30 : 0x00;
     s[n++] = (uint8_t)(kind | 8 | (more ? 4 : 0));
     if (kind == 0) s[n++] = second(5);
-    s[n++] = (uint8_t)(key / 2);
+    s[n++] = (uint8_t)(front / 2);
     s[n++] = (uint8_t)number;
     s[n++] = (uint8_t)(1 + below(127));
     s[n++] = (uint8_t)(below(30) ? 12 : 15);
@@ -413,13 +453,15 @@ int main(int argc, char **argv)
     else if (!strcmp(name, "readings")) readings();
     else if (!strcmp(name, "full")) full();
     else if (!strcmp(name, "segmented")) segmented();
+    else if (!strcmp(name, "routed")) routed();
     else if (!strcmp(name, "damaged")) damaged(n);
     else if (!strcmp(name, "requests")) coded = 1, damaged(n);
+    else if (!strcmp(name, "crossed")) crossed = 1, damaged(n);
     else if (!strcmp(name, "flat") && n <= 4096) flat(n);
     else if (!strcmp(name, "nested") && n <= 4096) nested(n);
     else if (!strcmp(name, "message") && n <= 16384) message(n);
     else {
-        fputs("usage: recordings [octets | raw] idle | readings | full | segmented | damaged [N] | requests [N] | flat N | nested N | message N\n", stderr);
+        fputs("usage: recordings [octets | raw] idle | readings | full | segmented | routed | damaged [N] | requests [N] | crossed [N] | flat N | nested N | message N\n", stderr);
         return 2;
     }
     return 0;

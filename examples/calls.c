@@ -108,6 +108,24 @@ static void trunk(void)
     tell("a message in two segments");
 }
 
+/* Two devices behind one router, with one invoke ID: SNET 7, SADR 0B and 0C. Each message has a slot of its own. Then a state whose open slot has SNET 0. */
+static void routed(void)
+{
+    size_t eaten;
+    uint8_t reported, piece = 0x55;
+    want(hb_fresh(state, HB_STATE, 0) == 0);
+    feed(framed("06 21 43 00 0D", "01 08 00 07 01 0B 3C 57 00 04 0E 62 A1"), "04 00 06 21 43 3C 57 00 00 00 00 02 0E 00 00 00");
+    feed(framed("06 21 43 00 0D", "01 08 00 07 01 0C 3C 57 00 04 0E 62 B1"), "04 00 06 21 43 3C 57 01 00 00 00 02 0E 00 00 00");
+    feed(framed("06 21 43 00 0C", "01 08 00 07 01 0B 38 57 01 04 0E A2"), "05 00 06 21 43 38 57 00 00 00 00 03 0E 00 00 00");
+    want_octets(area, 3, of("62 A1 A2"));
+    state[511 + 31 + 11] = 0; /* the second slot's SNET: 7 becomes 0 */
+    want(hb_feed(state, HB_STATE, &piece, 1, report, HB_REPORT, area, HB_AREA, &eaten, &reported) == HB_NO_STATE && eaten == 0 && reported == 0);
+    state[511 + 31 + 11] = 7;
+    feed(framed("06 21 43 00 0C", "01 08 00 07 01 0C 38 57 01 04 0E B2"), "05 00 06 21 43 38 57 01 00 00 00 03 0E 00 00 00");
+    want_octets(area + HB_SLOT, 3, of("62 B1 B2"));
+    tell("two devices behind one router");
+}
+
 /* A ReadProperty request that accepts 2 segments, on a trunk of an edition, also behind a silence and a forget order: they leave the edition as it is. */
 static void request(uint8_t later, const char *reports)
 {
@@ -128,7 +146,7 @@ static void editions(void)
     want(state[510] == 1); /* the edition's octet: 0 or 1 */
     state[510] = 2;
     want(hb_feed(state, HB_STATE, &piece, 1, report, HB_REPORT, area, HB_AREA, &eaten, &reported) == HB_NO_STATE && eaten == 0 && reported == 0);
-    want(hb_feed(state, 546, &piece, 1, report, HB_REPORT, area, HB_AREA, &eaten, &reported) == HB_NO_AREA && eaten == 0 && reported == 0);
+    want(hb_feed(state, 547, &piece, 1, report, HB_REPORT, area, HB_AREA, &eaten, &reported) == HB_NO_AREA && eaten == 0 && reported == 0);
     tell("a trunk of either edition");
 }
 
@@ -405,6 +423,7 @@ static void services_tried(void)
 int main(void)
 {
     trunk();
+    routed();
     editions();
     recorded();
     sums();

@@ -8,7 +8,7 @@
 
    Numbers. Every call but the check sums answers 0 or the number of a refusal. On a refusal no area changes, and every number given back is 0. So after 59,
    60 and 68 *eaten is 0, and so it is after a 67 that is offered again: a loop that offers the rest of its piece must look at the answer, or it never ends.
-   60 is a mistake in the program, an area of another size: also a state that an older version left, of 546 octets. 59 is a state area that was not made by
+   60 is a mistake in the program, an area of another size: also a state that an older version left, of 547 octets or 546. 59 is a state area that was not made by
    hb_fresh or was written by somebody else: make it anew by hb_fresh; what was half received is lost, and only that.
    hb_replay's 67 is the one exception: the records before the bad one were eaten, state and message area are as after them, *eaten is their number; the report
    area is as it was and *reported is 0.
@@ -18,8 +18,8 @@
    chooses: 0 is 1995, any other number the later edition. A trunk's edition is chosen at hb_fresh and kept in its state; no call changes it. Read a header
    that stands in the state area by the edition that the trunk has. The editions differ in those three bits and nowhere else.
 
-   Stack. Measured, in octets: hb_replay 4,272; hb_feed 3,776; hb_service_read 3,472; hb_items_list 3,120; hb_items_count 3,072; hb_item_step 3,024;
-   hb_item_next 2,976; hb_service_write 1,104; every other call below 500 (docs/PERFORMANCE.md).
+   Stack. Measured, in octets: hb_replay 4,640; hb_feed 3,696; hb_service_read 3,472; hb_items_list 3,120; hb_items_count 3,072; hb_item_step 3,024;
+   hb_item_next 2,976; hb_forget 1,294; hb_service_write 1,104; hb_fresh 530; every other call below 500 (docs/PERFORMANCE.md).
 
    What each call promises is proved; its statement stands in crates/hitchbarley/src, with the definitions in specs. */
 #ifndef HITCHBARLEY_H
@@ -27,7 +27,7 @@
 #include <stddef.h>
 #include <stdint.h>
 
-#define HB_VERSION "1.3"
+#define HB_VERSION "1.4"
 #define HB_KIT "rattle-kit-5" /* the release that this version is proved and compiled with */
 
 #ifdef __cplusplus
@@ -35,7 +35,7 @@ extern "C" {
 #endif
 
 enum {
-    HB_STATE = 547,  /* octets of a trunk's state */
+    HB_STATE = 635,  /* octets of a trunk's state; its layout is below */
     HB_REPORT = 16,  /* octets of a report */
     HB_AREA = 65536, /* octets of the message area: four slots */
     HB_SLOT = 16384, /* octets of a slot in it: slot s stands from HB_SLOT * s on */
@@ -50,6 +50,14 @@ enum {
     HB_HEAD = 3, /* its type, destination, source, and the length of its data (2 octets, high first) at HB_HEAD + 3 */
     HB_FRAME = 9 /* its data: in a frame of type 5 or 6 the network header, and behind that the APDU */
 };
+
+/* A state, octet by octet. Keep it as it is between calls; this is for looking.
+     0 - 8      phase (0 hunting, 1 preamble, 2 header, 3 data), octets of it that came (2), the frame's head (5: HB_HEAD), the first check octet of its data
+     9 - 509    the frame's data (HB_FRAME)
+     510        the edition: 0 is 1995, 1 the later one
+     511 - 634  four slots of 31 octets: used (0 or 1), MS/TP source, MS/TP destination, PDU type, invoke ID, next number, service choice, octets held (2);
+                the network source: present (0 or 1), SNET (2), SLEN, SADR (7); the network destination: present, DNET (2), DLEN, DADR (7). A free one is all zero.
+   Two octets are a number, the high octet first. */
 
 /* The numbers of refusals. */
 enum {
@@ -91,7 +99,8 @@ enum {
     HB_SERVICE_OVER = 42,   /* an item after the last */
     HB_SERVICE_CHOICE = 43, /* choice not built for that PDU */
 
-    /* rebuilding, in octet 1 of a report of kind 6 */
+    /* rebuilding, in octet 1 of a report of kind 6. A message's key has eight parts: MS/TP source and destination, PDU type, invoke ID, and the network header's
+       SNET, SADR, DNET and DADR, each there or not; an address is its octets with its length. Hop count, priority and frame type are not in it. */
     HB_NO_SLOT = 50,   /* number 0, key not open, no slot free */
     HB_NOT_BEGUN = 51, /* number not 0 and key not open */
     HB_NOT_NEXT = 52,  /* key open: not the next number */
@@ -102,7 +111,7 @@ enum {
 
     /* what is lent */
     HB_NO_STATE = 59,  /* octets that are no state's; a state in header or data with nothing left to come, or in data with a length of 0 or above 501; a slot
-                          holding over 16,384; two open slots of one key */
+                          holding over 16,384; two open slots of one key; an open slot whose network addresses no network header gives */
     HB_NO_AREA = 60,   /* a state, report, message or record area of another size */
     HB_SMALL = 61,     /* output area smaller than the result */
     HB_NO_READING = 62, /* records that are the reading of no octets */

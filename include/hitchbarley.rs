@@ -7,12 +7,12 @@
 //!     rustc -L target/staticlib -l static=hitchbarley
 #![allow(dead_code)]
 
-pub const HB_VERSION: &str = "1.3";
+pub const HB_VERSION: &str = "1.4";
 /// the release that this version is proved and compiled with
 pub const HB_KIT: &str = "rattle-kit-5";
 
-/// octets of a trunk's state; crates/state/specs/Layout.antt has the layout
-pub const HB_STATE: usize = 547;
+/// octets of a trunk's state; hitchbarley.h has the layout
+pub const HB_STATE: usize = 635;
 /// octets of a report
 pub const HB_REPORT: usize = 16;
 /// octets of the message area: four slots of 16,384
@@ -100,7 +100,7 @@ pub const HB_SERVICE_OVER: u8 = 42;
 /// choice not built for that PDU
 pub const HB_SERVICE_CHOICE: u8 = 43;
 
-// rebuilding, in octet 1 of a report of kind 6
+// rebuilding, in octet 1 of a report of kind 6; a key has eight parts: MS/TP source and destination, PDU type, invoke ID, SNET, SADR, DNET, DADR
 /// number 0, key not open, no slot free
 pub const HB_NO_SLOT: u8 = 50;
 /// number not 0 and key not open
@@ -118,7 +118,7 @@ pub const HB_NOT_OPEN: u8 = 56;
 
 // what is lent
 /// octets that are no state's; a state in header or data with nothing left to come, or in data with a length of 0 or above 501; a slot holding over
-/// 16,384; two open slots of one key
+/// 16,384; two open slots of one key; an open slot whose network addresses no network header gives
 pub const HB_NO_STATE: u8 = 59;
 /// a state, report, message or record area of another size
 pub const HB_NO_AREA: u8 = 60;

@@ -23,7 +23,7 @@ fn name(s: &[u8]) -> u8 {
 }
 
 // What the line gives.
-fn answer(k: u8, s: &[u8], z: Sizes, state: &mut [u8; 600], area: &mut [u8; 65537]) -> Sizes {
+fn answer(k: u8, s: &[u8], z: Sizes, state: &mut [u8; 700], area: &mut [u8; 65537]) -> Sizes {
     if k < 11 {
         asked::line(k, s);
         return z;
@@ -40,7 +40,7 @@ fn answer(k: u8, s: &[u8], z: Sizes, state: &mut [u8; 600], area: &mut [u8; 6553
 }
 
 // The line, and what it gives; nothing where it is a heading.
-fn line(s: &[u8], z: Sizes, state: &mut [u8; 600], area: &mut [u8; 65537]) -> Sizes {
+fn line(s: &[u8], z: Sizes, state: &mut [u8; 700], area: &mut [u8; 65537]) -> Sizes {
     show::text(s);
     print::end();
     if text::at(s, 0) == b'#' {
@@ -63,7 +63,7 @@ fn octet(
     x: u8,
     p: Place,
     held: &mut [u8; 65536],
-    state: &mut [u8; 600],
+    state: &mut [u8; 700],
     area: &mut [u8; 65537],
 ) -> Place {
     let z = p.sizes;
@@ -82,7 +82,7 @@ fn piece(
     s: &[u8],
     p: Place,
     held: &mut [u8; 65536],
-    state: &mut [u8; 600],
+    state: &mut [u8; 700],
     area: &mut [u8; 65537],
 ) -> Place {
     let mut now = p;
@@ -95,14 +95,14 @@ fn piece(
 }
 
 // One read.
-fn some(p: Place, held: &mut [u8; 65536], state: &mut [u8; 600], area: &mut [u8; 65537]) -> Place {
+fn some(p: Place, held: &mut [u8; 65536], state: &mut [u8; 700], area: &mut [u8; 65537]) -> Place {
     let mut text = io::large_buffer();
     let n = io::read_full(libc::STDIN_FILENO, &mut text);
     piece(show::part(&text, 0, n), p, held, state, area)
 }
 
 // The text, up to 4 MiB. At first the state area has no octets, and the message area has 65,536.
-fn all(held: &mut [u8; 65536], state: &mut [u8; 600], area: &mut [u8; 65537]) {
+fn all(held: &mut [u8; 65536], state: &mut [u8; 700], area: &mut [u8; 65537]) {
     let sizes = Sizes {
         state: 0,
         area: 65536,
@@ -117,7 +117,7 @@ fn all(held: &mut [u8; 65536], state: &mut [u8; 600], area: &mut [u8; 65537]) {
 
 fn main() {
     let mut held = io::large_buffer();
-    let mut state = [0u8; 600];
+    let mut state = [0u8; 700];
     let mut area = areas::output();
     text::fill(&mut area, 0, 0, 65537);
     all(&mut held, &mut state, &mut area);

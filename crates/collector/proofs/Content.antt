@@ -130,9 +130,9 @@ module _ (w : Heard) (m : Parts) (a : List ℕ) where
       → report ≡ reportOctets (plainReport w (message v m a))
   plain-put v e q = q ∙ rw (e, part-rest a (m .params))
 
-  pub segment-is :
-      View.segmentOf (record { key = keyOf w m; number = m .segment .number; mor = m .segment .mor; choice = m .apdu .choice }) (take (length a - m .params) (drop (m .params) a)) ≡ segmentFrom w m a
-  segment-is = rw (part-rest a (m .params))
+  pub segment-is : (v : Route)
+      → View.segmentOf (record { key = keyOf w v m; number = m .segment .number; mor = m .segment .mor; choice = m .apdu .choice }) (take (length a - m .params) (drop (m .params) a)) ≡ segmentFrom w v m a
+  segment-is v = rw (part-rest a (m .params))
 
 -- the report of a segment, by the answer of the call
 module _ (w : Heard) (m : Parts) (area : List ℕ) {step : Step} {report : List ℕ} where

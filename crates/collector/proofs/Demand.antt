@@ -37,6 +37,7 @@ use Rattle.collector.specs.declared.heard.Heard.{Heard}
 use Rattle.collector.specs.declared.heard.Parts.{Parts}
 use Rattle.collector.proofs.Actions.{acts-segment}
 use Rattle.collector.proofs.Alike.{offered-to, called-by}
+use Rattle.collector.proofs.Given.{known}
 
 module _ (c : Collector) (area : List ℕ) (P : Passes c) (z : length area ≡ 65536) where
   -- "one run of trunk octets with silences and forget orders at fixed places, from any state that passes 59": "Then reports, final state and
@@ -45,11 +46,11 @@ module _ (c : Collector) (area : List ℕ) (P : Passes c) (z : length area ≡ 6
       → e ≡ inEdition (c .edition) (reading (rules keys (bacnet (c .edition))) (c .receiver) (slotsOf c) area run)
   demand3 o =
       let w = offered-to o in
-      w .2 ∙ ap (inEdition (c .edition)) (whole keys key-laws (bacnet (c .edition)) slotCount (λ n. refl) (λ o g e. refl) (P .receiver) (P .slots) (eq-eqb (length area) 65536 z) (w .1))
+      w .2 ∙ ap (inEdition (c .edition)) (whole keys key-laws (bacnet (c .edition)) slotCount (λ n. refl) (known (c .edition)) (P .receiver) (P .slots) (eq-eqb (length area) 65536 z) (w .1))
 
   -- every run can be offered to the box, and so by the calls
   pub boxed-way : (run : Run) → (x : BoxEnd) × Offered (box (c .edition)) (length (heldOf (c .receiver))) (c .receiver) (slotsOf c) area run x
-  boxed-way run = offerable keys key-laws (bacnet (c .edition)) slotCount (λ n. refl) (λ o g e. refl) run (c .receiver) (slotsOf c) area (P .receiver) (P .slots) (eq-eqb (length area) 65536 z)
+  boxed-way run = offerable keys key-laws (bacnet (c .edition)) slotCount (λ n. refl) (known (c .edition)) run (c .receiver) (slotsOf c) area (P .receiver) (P .slots) (eq-eqb (length area) 65536 z)
 
   pub some-way : (run : Run) → (e : End) × Called (length (heldOf (c .receiver))) c area run e
   some-way run = let w = boxed-way run in (inEdition (c .edition) (w .0), called-by (w .1))
@@ -67,12 +68,12 @@ module _ (c : Collector) (area : List ℕ) (P : Passes c) (z : length area ≡ 6
       Deeds.message keys key-laws (bacnet (c .edition)) (readFrom (c .receiver) (wire all)) (length (heldOf (c .receiver))) (slotsOf c) area (fair (c .slots) area (P .slots) z) front e o g here is k i n
 
   -- a repeated or late segment changes nothing: 52
-  pub late : (w : Heard) (v : Route) (m : Parts) (a : List ℕ) (i : ℕ) → m .segment .seg ≡ true → slotOf keys (segmentFrom w m a .key) (slotsOf c) ≡ some i
+  pub late : (w : Heard) (v : Route) (m : Parts) (a : List ℕ) (i : ℕ) → m .segment .seg ≡ true → slotOf keys (segmentFrom w v m a .key) (slotsOf c) ≡ some i
       → eqb (m .segment .number) 0 ≡ false → eqb (m .segment .number) (slotAt keys (slotsOf c) i .next) ≡ false
       → acting w (message v m a) (slotsOf c) area ≡ (reportOctets (refusal (w .frame) 52), slotsOf c, area)
   late w v m a i s k n d =
       acts-segment w v m a (slotsOf c) area s
-      ∙ rw (repeated keys (segmentFrom w m a) (boxed (slotsOf c) area) i k n d)
+      ∙ rw (repeated keys (segmentFrom w v m a) (boxed (slotsOf c) area) i k n d)
 
   -- two keys never share octets: what two open slots hold lies apart
   pub apart : (i j : ℕ) → i < 4 → j < 4 → (slotAt keys (slotsOf c) i .key ≡ slotAt keys (slotsOf c) j .key → ⊥)

@@ -1,5 +1,8 @@
 pub mod Content
+pub mod Routes
+pub mod Given
 pub mod Actions
+pub mod Hearing
 pub mod Answers
 pub mod Eaten
 pub mod Hushed

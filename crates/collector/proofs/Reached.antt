@@ -29,12 +29,13 @@ use Rattle.collector.specs.Calls.{slotCount, passing, sized, box, freshC
 use Rattle.collector.specs.Offering.{Passes, End, Called}
 use Rattle.collector.specs.declared.Collector.{Collector}
 use Rattle.collector.proofs.Alike.{Boxed, offered-to}
+use Rattle.collector.proofs.Given.{known}
 
 pub fresh : (edition : Edition) → Passes (freshCollector edition)
 fresh edition = record { receiver = record { left = refl; head = length-replicate {A = ℕ} 5 0; store = length-replicate {A = ℕ} 501 0 }; slots = fresh-passes }
 
 pub keeps : (edition : Edition) → Keeps (rules keys (bacnet edition)) damageOctets passing sized
-keeps edition = Recordings.keeps keys key-laws (bacnet edition) slotCount (λ n. refl) (λ o g e. refl)
+keeps edition = Recordings.keeps keys key-laws (bacnet edition) slotCount (λ n. refl) (known edition)
 
 -- the receiver
 from-sound : (xs : List ℕ) (n : ℕ) (r : Receiver) → Sound r → Sound (feedFrom n r xs .receiver)

@@ -59,20 +59,22 @@ contentOf w payload =
 abbrev pub paramsOf : Parts → List ℕ → List ℕ
 paramsOf m a = drop (m .params) a
 
--- ---- the segment that a frame carries. "Key: MS/TP source, MS/TP destination, PDU type, invoke ID."
-abbrev pub keyOf : Heard → Parts → Key
-keyOf w m = record { source = w .frame .source; destination = w .frame .destination; kind = m .kind; invoke = m .apdu .invoke }
+-- ---- the segment that a frame carries. "Key: MS/TP source, MS/TP destination, PDU type, invoke ID", and "SNET, SADR, DNET and DADR from the network
+-- header"
+abbrev pub keyOf : Heard → Route → Parts → Key
+keyOf w v m =
+    record { source = w .frame .source; destination = w .frame .destination; kind = m .kind; invoke = m .apdu .invoke; from = v .source; to = v .destination }
 
-abbrev pub segmentFrom : Heard → Parts → List ℕ → Messages.Segment Key
-segmentFrom w m a =
-    record { key = keyOf w m; number = m .segment .number; mor = m .segment .mor; choice = m .apdu .choice; octets = paramsOf m a }
+abbrev pub segmentFrom : Heard → Route → Parts → List ℕ → Messages.Segment Key
+segmentFrom w v m a =
+    record { key = keyOf w v m; number = m .segment .number; mor = m .segment .mor; choice = m .apdu .choice; octets = paramsOf m a }
 
 abbrev pub segmentIn : Heard → Content → Option (Messages.Segment Key)
 segmentIn w (other n) = none
 segmentIn w (refuses n) = none
 segmentIn w (network v n) = none
 segmentIn w (refusesBehind v n) = none
-segmentIn w (message v m a) = given (m .segment .seg) (some (segmentFrom w m a)) none
+segmentIn w (message v m a) = given (m .segment .seg) (some (segmentFrom w v m a)) none
 
 -- ---- the reports
 -- "its tags good", or kind 6 with the tag number

@@ -3,7 +3,6 @@ use Prim.Native.Nat.{ℕ}
 use mathlib.Core.List.{List}
 use Rattle.octets.specs.Reading.{oct}
 use Rattle.npdu.specs.Address.{sourceOf, destinationOf}
-use Rattle.npdu.specs.declared.Address.{Address}
 use Rattle.npdu.specs.declared.Npdu.{Npdu}
 use Rattle.apdu.specs.Fields.{kindOf, invokeOf, choiceOf, segmentOf, paramsAt}
 use Rattle.apdu.specs.declared.Edition.{Edition}
@@ -11,6 +10,7 @@ use Rattle.apdu.specs.declared.Pdu.{Pdu}
 use Rattle.reports.specs.declared.Frame.{Frame}
 use Rattle.collector.specs.declared.heard.Heard.{Heard}
 use Rattle.collector.specs.declared.heard.Parts.{Parts}
+use Rattle.collector.specs.declared.heard.Route as Declared
 
 -- the first three octets of the frame's head, and the edition
 abbrev pub frameOf : List ℕ → Frame
@@ -20,9 +20,8 @@ abbrev pub heardOf : Edition → List ℕ → Heard
 heardOf e head = record { frame = frameOf head; edition = e }
 
 -- where a message comes from and where it goes, behind a router or not
-pub record Route : Type 0 where
-  pub source : Address
-  pub destination : Address
+abbrev pub Route : Type 0
+Route = Declared.Route
 
 abbrev pub routeOf : Npdu → Route
 routeOf h = record { source = sourceOf h; destination = destinationOf h }

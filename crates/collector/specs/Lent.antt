@@ -1,10 +1,13 @@
 -- The three calls over a lent frame store: they are the collector's own, its edition, link, slots and store being apart.
 use Prim.Native.Nat.{ℕ}
-use mathlib.Core.Bool.{false}
+use mathlib.Core.Path.{_≡_}
+use mathlib.Core.Bool.{true, false}
 use mathlib.Core.List.{List}
 use Rattle.apdu.specs.declared.Edition.{Edition}
 use Rattle.frames.specs.declared.Link.{Link}
 use Rattle.frames.specs.Step as Frames
+use Rattle.messages.specs.Sound.{passes}
+use Rattle.rebuild.specs.View.{keys, view}
 use Rattle.rebuild.specs.declared.Slots.{Slots}
 use Rattle.collector.specs.Acting.{Kept}
 use Rattle.collector.specs.Calls.{Feeds, Stills, Forgets}
@@ -38,6 +41,10 @@ fellOver e r t s = record { refused = r .refused; reported = r .reported; state 
 
 abbrev pub Hushes : Link → Slots → List ℕ → Hushed → List ℕ → Type 0
 Hushes l t report r report′ = (e : Edition) (s : List ℕ) → Stills (over e l t s) report (fellOver e r t s) report′
+
+-- the same beside slots that 59 passes, whatever they are
+abbrev pub HushesBeside : Link → List ℕ → Hushed → List ℕ → Type 0
+HushesBeside l report r report′ = (t : Slots) → passes keys 4 (view t) ≡ true → Hushes l t report r report′
 
 -- a silence that reports nothing, or is refused
 abbrev pub quietBy : ℕ → Link → Hushed

@@ -2,13 +2,17 @@
 use crate::heard;
 use crate::heard::Heard;
 use crate::heard::Parts;
+use crate::heard::Route;
+use crate::heard::Told;
 use apdu::Answer;
 use apdu::Edition;
 use items::Tally;
+use npdu::Npdu;
 use rebuild::Key;
 use rebuild::Segment;
 use rebuild::Slots;
 use rebuild::Step;
+use rebuild::Taken;
 use reports::Frame;
 use reports::Report;
 ghost use mathlib.Core.Path.{_≡_};
@@ -22,9 +26,9 @@ ghost use Rattle.items.specs.Reading.{itemsOf};
 ghost use Rattle.rebuild.specs.View.{view};
 ghost use Rattle.reports.specs.Layout.{reportSize, reportOctets};
 ghost use Rattle.reports.specs.Kinds.{damaged, refusal};
-ghost use Rattle.collector.specs.Heard.{heardOf};
+ghost use Rattle.collector.specs.Heard.{heardOf, routeOf};
 ghost use Rattle.collector.specs.Frame.{Content, byTags, stepReport, npduContent, apduContent, contentOf};
-ghost use Rattle.collector.specs.Acting.{acting, carrying, Carries, Named, Segmented, Acted, ActedBehind, ActedAlone, SaidBehind, Lent};
+ghost use Rattle.collector.specs.Acting.{acting, carrying, Carries, Named, Seated, Segmented, Takes, Acted, ActedAlone, SaidBehind, Lent, HearsAs, HearsBehind, Hears};
 
 // Kind 2: damage.
 pub fn put_damage(out: &mut [u8], n: u8)
@@ -60,7 +64,7 @@ fn put_by_tags(out: &mut [u8], params: &[u8], r: Report)
 }
 
 // The report of a segment, from its answer and the area after it.
-fn put_answer(w: Heard, m: Parts, step: Step, out: &mut [u8], area: &[u8])
+pub fn put_answer(w: Heard, m: Parts, step: Step, out: &mut [u8], area: &[u8])
     requires { ⌜ (length (now out) ≡ reportSize) × Named step (now area) ⌝ }
     ensures { λ _. ⌜ now (out .exit) ≡ reportOctets (stepReport w m step (now (area .entry))) ⌝ }
 {
@@ -85,27 +89,47 @@ fn put_answer(w: Heard, m: Parts, step: Step, out: &mut [u8], area: &[u8])
     }
 }
 
-// A segment, whatever the addresses v that its network header gives: rebuilding, then its report.
-fn act_segment(w: Heard, m: Parts, a: &[u8], slots: Slots, out: &mut [u8], area: &mut [u8]) -> Slots
-    requires { ⌜ Lent (now out) slots (now area) × Segmented m (now a) ⌝ }
-    ensures { λ r. ⌜ ActedBehind w (λ v. Content.message v m (now (a .entry))) slots (now (area .entry)) r (now (out .exit)) (now (area .exit)) ⌝ }
+// A segment, with the addresses of its network header: rebuilding alone. Its report is put behind it (`put_answer`), so that the slots are off the stack when tags are judged.
+pub fn take(w: Heard, v: Route, m: Parts, a: &[u8], slots: Slots, area: &mut [u8]) -> Taken
+    requires { ⌜ Seated slots (now area) × Segmented m (now a) ⌝ }
+    ensures { λ r. ⌜ Takes w v m (now (a .entry)) slots (now (area .entry)) r (now (area .exit)) ⌝ }
 {
     let frame = w.frame;
     let apdu = m.apdu;
     let part = m.segment;
+    let from = v.source;
+    let to = v.destination;
     let g = Segment {
         key: Key {
             source: frame.source,
             destination: frame.destination,
             kind: m.kind,
             invoke: apdu.invoke,
+            from,
+            to,
         },
         number: part.number,
         mor: part.mor,
         choice: apdu.choice,
     };
     let at = m.params;
-    let t = rebuild::take(slots, g, &a[at..], area);
+    rebuild::take(slots, g, &a[at..], area)
+}
+
+// A segment: rebuilding, then its report.
+fn act_segment(
+    w: Heard,
+    v: Route,
+    m: Parts,
+    a: &[u8],
+    slots: Slots,
+    out: &mut [u8],
+    area: &mut [u8],
+) -> Slots
+    requires { ⌜ Lent (now out) slots (now area) × Segmented m (now a) ⌝ }
+    ensures { λ r. ⌜ Acted (acting w (Content.message v m (now (a .entry))) (view slots) (now (area .entry))) r (now (out .exit)) (now (area .exit)) ⌝ }
+{
+    let t = take(w, v, m, a, slots, area);
     let step = t.answer;
     put_answer(w, m, step, out, area);
     t.slots
@@ -126,40 +150,45 @@ fn put_plain(w: Heard, m: Parts, a: &[u8], out: &mut [u8])
     );
 }
 
-// An APDU, by its octets, whatever its addresses.
-fn act_apdu(w: Heard, a: &[u8], slots: Slots, out: &mut [u8], area: &mut [u8]) -> Slots
-    requires { ⌜ Lent (now out) slots (now area) × (length (now a) ≤ 501) ⌝ }
-    ensures { λ r. ⌜ ActedBehind w (λ v. apduContent v (now (a .entry)) (readApdu (w .edition) (now (a .entry)))) slots (now (area .entry)) r (now (out .exit)) (now (area .exit)) ⌝ }
+// An APDU at a place, by its octets, behind its network header.
+fn hear_apdu(w: Heard, h: Npdu, a: &[u8], at: usize, out: &mut [u8]) -> Told
+    requires { ⌜ (length (now out) ≡ reportSize) × (length (now a) ≤ 501) ⌝ }
+    ensures { λ r. ⌜ HearsBehind w (apduContent (routeOf h) (now (a .entry)) (readApdu (w .edition) (now (a .entry)))) at (now (a .entry)) (now (out .entry)) r (now (out .exit)) ⌝ }
 {
     let edition = w.edition;
     match apdu::read(edition, a) {
         Answer::Refused(n) => {
             put_refusal(out, w, n);
-            slots
+            Told::REPORTED
         }
         Answer::Good(p) => {
             let m = heard::parts_of(p, a[0]);
             let part = m.segment;
             let seg = part.seg;
             if seg {
-                return act_segment(w, m, a, slots, out, area);
+                let v = heard::route_of(h);
+                return Told {
+                    at,
+                    route: v,
+                    parts: m,
+                };
             }
             put_plain(w, m, a, out);
-            slots
+            Told::REPORTED
         }
     }
 }
 
-// A frame of type 5 or 6: the network header, and what follows it.
-fn act_npdu(w: Heard, payload: &[u8], slots: Slots, out: &mut [u8], area: &mut [u8]) -> Slots
-    requires { ⌜ Lent (now out) slots (now area) × (length (now payload) ≤ 501) ⌝ }
-    ensures { λ r. ⌜ Acted (acting w (npduContent (w .edition) (now (payload .entry)) (readNpdu (now (payload .entry)))) (view slots) (now (area .entry))) r (now (out .exit)) (now (area .exit)) ⌝ }
+// The data of a frame of type 5 or 6: the network header, and what follows it.
+fn hear_npdu(w: Heard, payload: &[u8], out: &mut [u8]) -> Told
+    requires { ⌜ (length (now out) ≡ reportSize) × (length (now payload) ≤ 501) ⌝ }
+    ensures { λ r. ⌜ HearsAs w (npduContent (w .edition) (now (payload .entry)) (readNpdu (now (payload .entry)))) (now (payload .entry)) (now (out .entry)) r (now (out .exit)) ⌝ }
 {
     let n = npdu::read(payload);
     let refused = n.refused;
     if 0 < refused {
         put_refusal(out, w, refused);
-        return slots;
+        return Told::REPORTED;
     }
     let next = n.next;
     let h = n.head;
@@ -170,9 +199,9 @@ fn act_npdu(w: Heard, payload: &[u8], slots: Slots, out: &mut [u8], area: &mut [
             Report::network_message(frame, (payload.len() - next) as u32),
             out,
         );
-        return slots;
+        return Told::REPORTED;
     }
-    act_apdu(w, &payload[next..], slots, out, area)
+    hear_apdu(w, h, &payload[next..], next, out)
 }
 
 // Whether a good frame carries a network header. Slots move by such a frame alone.
@@ -183,6 +212,15 @@ pub fn carries(head: [u8; 5]) -> bool
         return true;
     }
     head[0] == 6
+}
+
+// A good frame of type 5 or 6, read by an edition: reported, unless it is a segment.
+pub fn hear(edition: Edition, head: [u8; 5], payload: &[u8], out: &mut [u8]) -> Told
+    requires { ⌜ Carries true head (now payload) × (length (now out) ≡ reportSize) ⌝ }
+    ensures { λ r. ⌜ Hears (heardOf edition head) (now (payload .entry)) (now (out .entry)) r (now (out .exit)) ⌝ }
+{
+    let w = heard::heard_of(edition, head);
+    hear_npdu(w, payload, out)
 }
 
 // A good frame of type 5 or 6: its head and its data, read by an edition.
@@ -197,13 +235,17 @@ pub fn act(
     requires { ⌜ Carries true head (now payload) × Lent (now out) slots (now area) ⌝ }
     ensures { λ r. ⌜ Acted (acting (heardOf edition head) (contentOf (heardOf edition head) (now (payload .entry))) (view slots) (now (area .entry))) r (now (out .exit)) (now (area .exit)) ⌝ }
 {
-    let frame = Frame {
-        kind: head[0],
-        destination: head[1],
-        source: head[2],
-    };
-    let w = Heard { frame, edition };
-    act_npdu(w, payload, slots, out, area)
+    let t = hear(edition, head, payload, out);
+    let m = t.parts;
+    let part = m.segment;
+    let seg = part.seg;
+    if seg {
+        let w = heard::heard_of(edition, head);
+        let v = t.route;
+        let at = t.at;
+        return act_segment(w, v, m, &payload[at..], slots, out, area);
+    }
+    slots
 }
 
 // A good frame of another type, whatever edition, slots and message area are.

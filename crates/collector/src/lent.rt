@@ -6,7 +6,8 @@ use frames::Outcome;
 use rebuild::Slots;
 ghost use mathlib.Core.Path.{_≡_};
 ghost use lib.ListN.{length};
-ghost use Rattle.collector.specs.Lent.{Eats, unfedBy, Hushes, quietBy, Frees};
+ghost use Rattle.reports.specs.Layout.{reportSize};
+ghost use Rattle.collector.specs.Lent.{Eats, unfedBy, Hushes, HushesBeside, quietBy, Frees};
 
 // The answer to a piece: 60, 59 or 0; the octets eaten; whether a report was written; whether the slots may have moved.
 pub struct Ate {
@@ -131,17 +132,11 @@ fn quiet(link: Link, number: u8) -> Hushed
     }
 }
 
-// The line fell silent.
-pub fn silence(link: Link, slots: Slots, report: &mut [u8]) -> Hushed
-    ensures { λ r. ⌜ Hushes link slots (now (report .entry)) r (now (report .exit)) ⌝ }
+// A silence beside slots that 59 passes, whatever they are.
+pub fn hush(link: Link, report: &mut [u8]) -> Hushed
+    requires { ⌜ length (now report) ≡ reportSize ⌝ }
+    ensures { λ r. ⌜ HushesBeside link (now (report .entry)) r (now (report .exit)) ⌝ }
 {
-    if report.len() != reports::SIZE {
-        return quiet(link, 60);
-    }
-    let fair = rebuild::sound(slots);
-    if !fair {
-        return quiet(link, 59);
-    }
     let f = link.silence();
     let refused = f.refused;
     let link = f.link;
@@ -158,6 +153,20 @@ pub fn silence(link: Link, slots: Slots, report: &mut [u8]) -> Hushed
         Outcome::Quiet => quiet(link, refused),
         Outcome::Frame => quiet(link, refused),
     }
+}
+
+// The line fell silent.
+pub fn silence(link: Link, slots: Slots, report: &mut [u8]) -> Hushed
+    ensures { λ r. ⌜ Hushes link slots (now (report .entry)) r (now (report .exit)) ⌝ }
+{
+    if report.len() != reports::SIZE {
+        return quiet(link, 60);
+    }
+    let fair = rebuild::sound(slots);
+    if !fair {
+        return quiet(link, 59);
+    }
+    hush(link, report)
 }
 
 // Frees a slot.

@@ -1,6 +1,6 @@
 // The whole box: edition, receiver and four slots by value; feed, silence, forget; reports of 16 octets.
 pub mod frame;
-mod heard;
+pub mod heard;
 pub mod lent;
 
 use apdu::Edition;

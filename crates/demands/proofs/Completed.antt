@@ -41,7 +41,7 @@ use Rattle.rebuild.specs.declared.Key.{Key}
 use Rattle.recordings.specs.Frames.{rules, actOn, deedOf, deedsAt, deeds, history, Completes}
 use Rattle.rebuild.specs.Calls.{stepOf}
 use Rattle.reports.specs.Layout.{reportOctets}
-use Rattle.reports.specs.Kinds.{unsegmented, complete}
+use Rattle.reports.specs.Kinds.{unsegmented, segmentTaken, complete}
 use Rattle.reports.specs.declared.Report.{Report}
 use Rattle.collector.specs.Heard.{heardOf, Route, routeOf, partsOf}
 use Rattle.collector.specs.Frame.{Content, contentOf, npduContent, apduContent, keyOf, segmentIn, segmentFrom, segmentAt, paramsOf}
@@ -56,7 +56,7 @@ use Rattle.collector.proofs.Demand as Collecting
 use Rattle.hitchbarley.proofs.Demand.{octets-demand3}
 use Rattle.hitchbarley.proofs.Offerable as Offerable
 use Rattle.demands.specs.Words.{Between, SegmentChanges}
-use Rattle.demands.specs.Completed.{kindIn, numberIn, slotIn, lengthIn, keyIn, tagNumber, answerIn, reportAt, segmentEnding, heardEntry, heardLog, heardFrom}
+use Rattle.demands.specs.Completed.{kindIn, numberIn, slotIn, lengthIn, Names, tagNumber, answerIn, reportAt, segmentEnding, heardEntry, heardLog, heardFrom}
 use Rattle.demands.specs.Completed.{Whole, WholeButTags, OfSegment, AsReported, CompletedAsReported, CompletedOverOctets, CanBeLinked}
 use Rattle.demands.proofs.Numbers.{count-numbers}
 use Rattle.demands.proofs.Segments.{segment-does}
@@ -93,8 +93,8 @@ content-in w payload u m o e =
 -- ---- the report r of a segment of key k, by its answer w and the area after it
 data Told (k : Key) (w : Answer) (area r : List ℕ) : Type 0 where
   not-taken : (n : ℕ) → w ≡ refused n → Between 50 55 n → kindIn r ≡ 6 → numberIn r ≡ n → Told k w area r
-  more : (i n : ℕ) → w ≡ taken i n → kindIn r ≡ 4 → keyIn r ≡ k → Told k w area r
-  fine : (i n : ℕ) → w ≡ completed i n → kindIn r ≡ 5 → slotIn r ≡ i → lengthIn r ≡ n → keyIn r ≡ k
+  more : (i n : ℕ) → w ≡ taken i n → kindIn r ≡ 4 → Names r k → Told k w area r
+  fine : (i n : ℕ) → w ≡ completed i n → kindIn r ≡ 5 → slotIn r ≡ i → lengthIn r ≡ n → Names r k
       → ((x : ℕ) → itemsOf (part (room * i) n area) ≡ bad x → ⊥) → Told k w area r
   faulty : (i n : ℕ) → w ≡ completed i n → kindIn r ≡ 6 → Between 30 39 (numberIn r)
       → itemsOf (part (room * i) n area) ≡ bad (numberIn r) → Told k w area r
@@ -107,22 +107,20 @@ bad-row : (s : List ℕ) (x : ℕ) → itemsOf s ≡ bad x → Between 30 39 x
 unfolding counted
 bad-row s x e = count-numbers s .0 x (ap counted e)
 
--- the key that a report names is the segment's
-abbrev keyBy : Heard → Parts → ℕ → Key
-keyBy w m kind = record { source = w .frame .source; destination = w .frame .destination; kind = kind; invoke = m .apdu .invoke }
-
-key-back : (w : Heard) (m : Parts) → Typed m → keyBy w m (m .apdu .first / 16) ≡ keyOf w m
-key-back w m ok = ap (keyBy w m) ok
-
-told-tags : (w : Heard) (m : Parts) (i n : ℕ) (area : List ℕ) (y : Items.Out) → itemsOf (part (room * i) n area) ≡ y → n ≤ room → Typed m
-    → Told (keyOf w m) (completed i n) area (reportOctets (byTags y (complete (w .frame) (m .apdu) i n)))
+-- a report of a segment names four parts of its key
+named : (w : Heard) (v : Route) (m : Parts) → Typed m → (r : Report) → r .frame ≡ w .frame → r .apdu ≡ m .apdu → Names (reportOctets r) (keyOf w v m)
 unfolding reportOctets
-told-tags w m i n area (good rs end) e h ok =
-    fine i n refl refl refl (length-back (complete (w .frame) (m .apdu) i n) h)
-    (key-back w m ok) (λ x q. impossible (cc))
-told-tags w m i n area (bad x) e h ok = faulty i n refl refl (bad-row (part (room * i) n area) x e) e
+named w v m ok r f p = record { source = rw f; destination = rw f; kind = rw p (sym ok); invoke = rw p }
 
-module _ (w : Heard) (m : Parts) (a : List ℕ) (ok : Typed m) (g : Segment Key) (is : segmentFrom w m a ≡ g) (b : Box Key) where
+told-tags : (w : Heard) (v : Route) (m : Parts) (i n : ℕ) (area : List ℕ) (y : Items.Out) → itemsOf (part (room * i) n area) ≡ y → n ≤ room → Typed m
+    → Told (keyOf w v m) (completed i n) area (reportOctets (byTags y (complete (w .frame) (m .apdu) i n)))
+unfolding reportOctets
+told-tags w v m i n area (good rs end) e h ok =
+    fine i n refl refl refl (length-back (complete (w .frame) (m .apdu) i n) h)
+    (named w v m ok (complete (w .frame) (m .apdu) i n) refl refl) (λ x q. impossible (cc))
+told-tags w v m i n area (bad x) e h ok = faulty i n refl refl (bad-row (part (room * i) n area) x e) e
+
+module _ (w : Heard) (v : Route) (m : Parts) (a : List ℕ) (ok : Typed m) (g : Segment Key) (is : segmentFrom w v m a ≡ g) (b : Box Key) where
   by-answer : (x : Answer) (slots : List (Slot Key)) (area : List ℕ) → SegmentChanges g b x slots area → Told (g .key) x area (reportOctets (stepReport w m (stepOf x) area))
   unfolding reportOctets
   by-answer (refused n) slots area h = not-taken n refl (row (h .1)) refl refl
@@ -130,10 +128,11 @@ module _ (w : Heard) (m : Parts) (a : List ℕ) (ok : Typed m) (g : Segment Key)
       row : {A B : Type 0} → (Between 50 53 n × A) ⊎ (Between 54 55 n × B) → Between 50 55 n
       row (inl x) = (x .0 .0, omega (arith, x .0 .1))
       row (inr x) = (omega (arith, x .0 .0), x .0 .1)
-  by-answer (taken i n) slots area h = more i n refl refl (key-back w m ok ∙ ap (λ (g : Segment Key). g .key) is)
+  by-answer (taken i n) slots area h =
+      more i n refl refl (subst (λ (g : Segment Key). Names (reportOctets (segmentTaken (w .frame) (m .apdu) i n)) (g .key)) is (named w v m ok (segmentTaken (w .frame) (m .apdu) i n) refl refl))
   by-answer (completed i n) slots area h =
       subst (λ (k : Key). Told k (completed i n) area (reportOctets (stepReport w m (stepOf (completed i n)) area))) (ap (λ (g : Segment Key). g .key) is)
-      (told-tags w m i n area (itemsOf (part (room * i) n area)) refl (h .fits) ok)
+      (told-tags w v m i n area (itemsOf (part (room * i) n area)) refl (h .fits) ok)
 
 told-by : (w : Heard) (x : Content) (g : Segment Key) → segmentIn w x ≡ some g
     → ((u : Route) (m : Parts) (o : List ℕ) → x ≡ message u m o → Typed m) → (b : Box Key)
@@ -143,11 +142,11 @@ told-by w (refuses n) g e ok b = impossible (cc)
 told-by w (network v n) g e ok b = impossible (cc)
 told-by w (refusesBehind v n) g e ok b = impossible (cc)
 told-by w (message v m a) g e ok b =
-    let is : segmentFrom w m a ≡ g =
-    given-cases (λ (y : Option (Segment Key)). y ≡ some g → segmentFrom w m a ≡ g) (m .segment .seg) (some (segmentFrom w m a)) none
+    let is : segmentFrom w v m a ≡ g =
+    given-cases (λ (y : Option (Segment Key)). y ≡ some g → segmentFrom w v m a ≡ g) (m .segment .seg) (some (segmentFrom w v m a)) none
     (λ _ q. cc) (λ _ q. impossible (cc)) e in
     let d = rebuild keys g b in
-    by-answer w m a (ok v m a refl) g is b (d .answer) (d .box .slots) (d .box .area) (segment-does g b)
+    by-answer w v m a (ok v m a refl) g is b (d .answer) (d .box .slots) (d .box .area) (segment-does g b)
 
 segment-told : (edition : Edition) (o : Out) (g : Segment Key) → segmentAt edition o ≡ some g → (b : Box Key)
     → (let d = rebuild keys g b in Told (g .key) (d .answer) (d .box .area) (answeredAt edition o (d .answer) (d .box .area)))
@@ -428,18 +427,15 @@ module _ (c : Collector) (area : List ℕ) (P : Passes c) (z : length area ≡ 6
       by : Told (g .key) (done o g here is .answer) (done o g here is .box .area) (line o g here is)
           → OfSegment c front x (end .reports) (end .area) report (eqb kind 4)
       by (not-taken n w b d q) = absurd (omega (arith, d, k′, row .1))
-      by (more i n w d y) = (g, ends-so, ap keyIn eq ∙ y, taken-mor g (done o g here is) mors i n w ∙ is-four 4 d)
+      by (more i n w d y) = (g, ends-so, subst (λ (r : List ℕ). Names r (g .key)) (sym eq) y, taken-mor g (done o g here is) mors i n w ∙ is-four 4 d)
       by (faulty i n w d b f) = absurd (omega (arith, d, k′, row .1))
-      by (fine i n w d s l y f) = (g, ends-so, ap keyIn eq ∙ y, completed-mor g (done o g here is) mors i n w ∙ is-four 5 d)
+      by (fine i n w d s l y f) = (g, ends-so, subst (λ (r : List ℕ). Names r (g .key)) (sym eq) y, completed-mor g (done o g here is) mors i n w ∙ is-four 5 d)
 
-  complete-by : (report : List ℕ) (o : Out) → ended place read ≡ some o → (y : Option (Segment Key)) → segmentAt (c .edition) o ≡ y
+  complete-by : (report : List ℕ) (o : Out) → ended place read ≡ some o → (g : Segment Key) → segmentAt (c .edition) o ≡ some g
       → report ≡ rules keys (bacnet (c .edition)) .act o (B .s) (B .a) .0
       → reportAt place (end .reports) ≡ some report → kindIn report ≡ 5
-      → Whole c front x (end .reports) (end .area) report
-  complete-by report o here none is e so k =
-      let plain : rules keys (bacnet (c .edition)) .act o (B .s) (B .a) .0 ≡ plainAt (c .edition) o = rw is in
-      absurd (out-kind 5 (omega arith, omega arith) (c .edition) o (subst (λ (r : List ℕ). kindIn r ≡ 5) (e ∙ plain) k))
-  complete-by report o here (some g) is e so k = by (told o g here is)
+      → Whole c front x (end .reports) (end .area) report g
+  complete-by report o here g is e so k = by (told o g here is)
     where
       eq : report ≡ line o g here is
       eq = e ∙ spoken o g here is
@@ -451,12 +447,12 @@ module _ (c : Collector) (area : List ℕ) (P : Passes c) (z : length area ≡ 6
       k′ = subst (λ (r : List ℕ). kindIn r ≡ 5) eq k
 
       by : Told (g .key) (done o g here is .answer) (done o g here is .box .area) (line o g here is)
-          → Whole c front x (end .reports) (end .area) report
+          → Whole c front x (end .reports) (end .area) report g
       by (not-taken n w b d q) = absurd (omega (arith, d, k′))
       by (more i n w d y) = absurd (omega (arith, d, k′))
       by (faulty i n w d b f) = absurd (omega (arith, d, k′))
       by (fine i n w d s l y f) =
-          rw (eq, y, s, l) (λ bg.
+          rw (eq, s, l) (λ bg.
           (within o g here is so′ i n w, whole-message o g here is so′ i n w bg, λ m q. f m (judged o g here is so′ i n w bg ∙ q)))
 
   bad-by : (report : List ℕ) (o : Out) → ended place read ≡ some o → (g : Segment Key) → segmentAt (c .edition) o ≡ some g
@@ -499,7 +495,9 @@ module _ (c : Collector) (area : List ℕ) (P : Passes c) (z : length area ≡ 6
         without-mor = λ report so k.
             let w = reported report so in
             segment-by 5 (omega arith, omega arith) report (w .0) (w .1) (segmentAt (c .edition) (w .0)) refl (w .2) k;
-        complete = λ report so k. let w = reported report so in complete-by report (w .0) (w .1) (segmentAt (c .edition) (w .0)) refl (w .2) so k;
+        complete = λ report so k g is bg.
+            let w = reported report so in
+            complete-by report (w .0) (w .1) g (subst (λ (y : Option Out). segmentEnding (c .edition) y ≡ some g) (w .1) is) (w .2) so k bg;
         bad-tags = λ report so k tag g is bg.
             let w = reported report so in
             bad-by report (w .0) (w .1) g (subst (λ (y : Option Out). segmentEnding (c .edition) y ≡ some g) (w .1) is) (w .2) so k tag bg;

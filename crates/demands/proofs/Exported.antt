@@ -1,10 +1,10 @@
 -- The exported calls, as their users read them: from their promises and the statements of the calls below.
-use Prim.Native.Nat.{ℕ, _%_, _≤_, _<_}
+use Prim.Native.Nat.{ℕ, zero, suc, _%_, _≤_, _<_}
 use native.Mathlib.Omega.{arith}
 use mathlib.Core.Path.{_≡_, refl, sym, ap, subst, _∙_}
 use mathlib.Core.Logic.{_⊎_, inl, inr, ⊎-elim}
 use mathlib.Core.Bool.{Bool, true, false}
-use mathlib.Core.List.{List, [], _++_}
+use mathlib.Core.List.{List, [], _∷_, _++_, map}
 use lib.Dec.{eqb, leb, ltb}
 use lib.ListN.{length, drop}
 use borrow.Author.Tests.{eq-eqb, eqb-true, eqb-false, ltb-true, ltb-false}
@@ -13,6 +13,7 @@ use Rattle.octets.specs.Reading.{Octets, oct}
 use Rattle.octets.specs.Laid.{Laid, answerOf}
 use Rattle.octets.specs.declared.Written.{Written}
 use Rattle.octets.specs.declared.Written.the-variants.{Wrote, Refused}
+use Rattle.npdu.specs.Address.{AddressFits}
 use Rattle.npdu.specs.Reading.{readNpdu}
 use Rattle.npdu.specs.Fault as NetworkFault
 use Rattle.apdu.specs.Reading.{readApdu}
@@ -31,7 +32,8 @@ use Rattle.services.proofs.Refusals.{AnswerHas, read-has}
 use Rattle.service_writer.specs.Layout as ServiceWriter
 use Rattle.service_writer.specs.Fault as ServiceFault
 use Rattle.messages.specs.Slots.{slotAt}
-use Rattle.rebuild.specs.View.{keys}
+use Rattle.rebuild.specs.View.{keys, seen}
+use Rattle.rebuild.specs.declared.Slot.{Slot}
 use Rattle.rebuild.proofs.Seen.{length-view}
 use Rattle.reports.specs.Layout.{reportSize}
 use Rattle.collector.specs.Calls as Box
@@ -44,7 +46,7 @@ use Rattle.records.specs.Flag.{flag}
 use Rattle.records.specs.Network.{npduSize, npduAt}
 use Rattle.records.specs.Application.{apduSize, apduAt}
 use Rattle.records.specs.Service.{serviceSize, serviceAt}
-use Rattle.state.specs.Layout.{stateSize, stateOctets}
+use Rattle.state.specs.Layout.{stateSize, stateOctets, SlotsFit}
 use Rattle.state.specs.Calls.{stateGood, Loaded, loadOf, Loads}
 use Rattle.state.proofs.Exact.{loads-only, accepted}
 use Rattle.hitchbarley.specs.Trunk.{Left, barred, stateOf, bar, inside, feedBar, feedLeft, silenceBar, silenceLeft, forgotten, forgetLeft, Feeds, Stills, Forgets}
@@ -54,6 +56,7 @@ use Rattle.hitchbarley.specs.Items.{tallyNumber, tallyCount, oneNumber, onePlac
 use Rattle.hitchbarley.specs.Services.{serviceGood, serviceNumber, serviceOctets, serviceFault}
 use Rattle.hitchbarley.proofs.Demand.{inside-is, feeds-carried, stills-carried, forgets-carried}
 use Rattle.demands.specs.Words.{SixtyThenFiftyNine, Broken, Four}
+use Rattle.demands.specs.Keys.{FitsFour}
 use Rattle.demands.proofs.FiftyNine.{feed-numbers, silence-numbers, forget-numbers, numbers}
 use Rattle.demands.proofs.Numbers.{network-numbers, header-numbers, item-numbers, network-writer-numbers, header-writer-numbers}
 use Rattle.demands.proofs.ServiceNumbers.{service-writer-numbers}
@@ -85,8 +88,17 @@ not-loaded state n f e c l = differ n 0 f e (ap (λ (x : Loaded). x .refused) l)
 pub held-one : (state : List ℕ) (c : Collector) → Loads state c → (P : Collector → Type 0) → Holding state P → P c
 held-one state c l P h = subst P (sym (inside-is state (h .0) (h .1)) ∙ inside-is state c l) (h .2)
 
+-- four slots, and addresses in their octets: what is loaded fits its types
+fit-at : (xs : List Slot) → SlotsFit xs → (i : ℕ) → i < length xs → AddressFits (slotAt keys (map seen xs) i .key .from) × AddressFits (slotAt keys (map seen xs) i .key .to)
+fit-at [] f i l = absurd (omega arith)
+fit-at (x ∷ xs) f zero l = (f .0 .from, f .0 .to)
+fit-at (x ∷ xs) f (suc i) l = fit-at xs (f .1) i (omega arith)
+
+pub fits-four : FitsFour
+fits-four c f = record { count = length-view (c .slots) 4 (f .four); addresses = λ i h. fit-at (c .slots .slots) (f .slots) i (rw (f .four) h) }
+
 pub four : (state : List ℕ) (c : Collector) → Octets state → Loads state c → Four c
-four state c os l = length-view (c .slots) 4 (loads-only state c os l .0 .four)
+four state c os l = fits-four c (loads-only state c os l .0)
 
 -- the area is the octets of the state that it holds, and each call keeps that
 abbrev pub Own : List ℕ → Type 0

@@ -13,6 +13,8 @@ use Rattle.apdu.specs.declared.Edition.{Edition}
 use Rattle.apdu.specs.declared.Edition.the-variants.{First, Later}
 use Rattle.trunk.specs.Reading.{readingOf, readFrom}
 use Rattle.trunk.specs.Demand.{reading}
+use Rattle.npdu.specs.Address.{sameAddress, sameFields, sameOctets, sourceOf, destinationOf, partAddress, absent}
+use Rattle.npdu.specs.Layout.{cut}
 use Rattle.npdu.specs.Reading as Npdu
 use Rattle.apdu.specs.Reading as Apdu
 use Rattle.apdu.specs.Fields.{tailEnd}
@@ -30,11 +32,11 @@ use Rattle.reports.specs.Kinds.{complete}
 use Rattle.collector.specs.Heard.{partsOf}
 use Rattle.collector.specs.Frame.{npduContent, contentOf, byTags}
 use Rattle.demands.specs.ReportsWorked.{Case, placed}
-use Rattle.demands.specs.FramesWorked.{oneHeld, routedHeld, otherNumber, otherChoice, routedWhole, wholeBadTags, noneHeld, fourHeld, fiveHeld, threeHeld, noSlot, apduCases, ApdusWorked, segmentCases, SegmentFramesWorked, refusedCases, RefusalsWorked}
+use Rattle.demands.specs.FramesWorked.{oneHeld, routedHeld, otherNumber, otherChoice, elsewhere, routedWhole, wholeBadTags, noneHeld, fourHeld, fiveHeld, threeHeld, noSlot, apduCases, ApdusWorked, segmentCases, SegmentFramesWorked, refusedCases, RefusalsWorked}
 use Rattle.demands.proofs.ReportsWorked.{reported, Computes, as-worked}
 
 apdus-computed : Computes apduCases
-unfolding reading readFrom readingOf headerMix dataBits dataBit splice lengthOf contentOf npduContent given Npdu.readNpdu Npdu.afterVersion Npdu.afterDest Npdu.afterSource Npdu.afterTail Npdu.partIf Npdu.noPart Npdu.tailAt Npdu.vendorAt Npdu.joined Npdu.messageAt Npdu.ended Npdu.refusedBy Apdu.readApdu Apdu.readRequest Apdu.readUnconfirmed Apdu.readComplexAck Apdu.readSegmentAck Apdu.readReject Apdu.readTail tailEnd itemsOf walk step closes ending more headAt numberAt lengthAt twoAt fourAt firstRule firstContent contentsAt wholeAt signBad signedAt contextAt applicationAt least most rebuild startsAt nextNumber sameKey reportOctets partsOf valueAt digits Npdu.partOf Npdu.partNet Npdu.partLen Npdu.addressOf Apdu.readSimpleAck Apdu.readError Apdu.readAbort
+unfolding reading readFrom readingOf headerMix dataBits dataBit splice lengthOf contentOf npduContent given Npdu.readNpdu Npdu.afterVersion Npdu.afterDest Npdu.afterSource Npdu.afterTail Npdu.partIf Npdu.noPart Npdu.tailAt Npdu.vendorAt Npdu.joined Npdu.messageAt Npdu.ended Npdu.refusedBy Apdu.readApdu Apdu.readRequest Apdu.readUnconfirmed Apdu.readComplexAck Apdu.readSegmentAck Apdu.readReject Apdu.readTail tailEnd itemsOf walk step closes ending more headAt numberAt lengthAt twoAt fourAt firstRule firstContent contentsAt wholeAt signBad signedAt contextAt applicationAt least most rebuild startsAt nextNumber sameKey sameAddress sameFields sameOctets sourceOf destinationOf partAddress absent cut reportOctets partsOf valueAt digits Npdu.partOf Npdu.partNet Npdu.partLen Npdu.addressOf Apdu.readSimpleAck Apdu.readError Apdu.readAbort
 apdus-computed First area z = refl
 apdus-computed Later area z = refl
 
@@ -77,11 +79,11 @@ abbrev segmentsBy : Items.Out → Items.Out → List Case
 segmentsBy x y =
     let fine = complete (record { kind = 0x06; destination = 0x5B; source = 0x5C }) (record { first = 0x38; invoke = 0x78; choice = 0x0C }) 1 7 in
     let alone = complete (record { kind = 0x05; destination = 0x5D; source = 0x5E }) (record { first = 0x08; invoke = 0x79; choice = 0x0E }) 1 3 in
-    oneHeld ∷ routedHeld ∷ otherNumber ∷ otherChoice ∷ (routedWhole .0, reportOctets (byTags x fine)) ∷ (wholeBadTags .0, reportOctets (byTags y alone))
+    oneHeld ∷ routedHeld ∷ otherNumber ∷ otherChoice ∷ elsewhere ∷ (routedWhole .0, reportOctets (byTags x fine)) ∷ (wholeBadTags .0, reportOctets (byTags y alone))
     ∷ noneHeld ∷ fourHeld ∷ fiveHeld ∷ threeHeld ∷ noSlot ∷ []
 
 segments-by : (d : Edition) (area : List ℕ) → reported d area segmentCases ≡ placed 0 (segmentsBy (itemsOf (part 16384 7 (once area))) (itemsOf (part 16384 3 (again area))))
-unfolding reading readFrom readingOf headerMix dataBits dataBit splice lengthOf contentOf npduContent given Npdu.readNpdu Npdu.afterVersion Npdu.afterDest Npdu.afterSource Npdu.afterTail Npdu.partIf Npdu.noPart Npdu.tailAt Npdu.vendorAt Npdu.joined Npdu.messageAt Npdu.ended Npdu.refusedBy Apdu.readApdu Apdu.readRequest Apdu.readUnconfirmed Apdu.readComplexAck Apdu.readSegmentAck Apdu.readReject Apdu.readTail tailEnd headAt numberAt lengthAt twoAt fourAt firstRule firstContent contentsAt wholeAt signBad signedAt contextAt applicationAt least most rebuild startsAt nextNumber sameKey reportOctets partsOf valueAt digits Npdu.partOf Npdu.partNet Npdu.partLen Npdu.addressOf Apdu.readSimpleAck Apdu.readError Apdu.readAbort
+unfolding reading readFrom readingOf headerMix dataBits dataBit splice lengthOf contentOf npduContent given Npdu.readNpdu Npdu.afterVersion Npdu.afterDest Npdu.afterSource Npdu.afterTail Npdu.partIf Npdu.noPart Npdu.tailAt Npdu.vendorAt Npdu.joined Npdu.messageAt Npdu.ended Npdu.refusedBy Apdu.readApdu Apdu.readRequest Apdu.readUnconfirmed Apdu.readComplexAck Apdu.readSegmentAck Apdu.readReject Apdu.readTail tailEnd headAt numberAt lengthAt twoAt fourAt firstRule firstContent contentsAt wholeAt signBad signedAt contextAt applicationAt least most rebuild startsAt nextNumber sameKey sameAddress sameFields sameOctets sourceOf destinationOf partAddress absent cut reportOctets partsOf valueAt digits Npdu.partOf Npdu.partNet Npdu.partLen Npdu.addressOf Apdu.readSimpleAck Apdu.readError Apdu.readAbort
 segments-by First area = refl
 segments-by Later area = refl
 
@@ -102,7 +104,7 @@ pub segment-frames-worked : SegmentFramesWorked
 segment-frames-worked = as-worked segmentCases segments-computed
 
 refusals-computed : Computes refusedCases
-unfolding reading readFrom readingOf headerMix dataBits dataBit splice lengthOf contentOf npduContent given Npdu.readNpdu Npdu.afterVersion Npdu.afterDest Npdu.afterSource Npdu.afterTail Npdu.partIf Npdu.noPart Npdu.tailAt Npdu.vendorAt Npdu.joined Npdu.messageAt Npdu.ended Npdu.refusedBy Apdu.readApdu Apdu.readRequest Apdu.readUnconfirmed Apdu.readComplexAck Apdu.readSegmentAck Apdu.readReject Apdu.readTail tailEnd itemsOf walk step closes ending more headAt numberAt lengthAt twoAt fourAt firstRule firstContent contentsAt wholeAt signBad signedAt contextAt applicationAt least most rebuild startsAt nextNumber sameKey reportOctets partsOf valueAt digits Npdu.partOf Npdu.partNet Npdu.partLen Npdu.addressOf Apdu.readSimpleAck Apdu.readError Apdu.readAbort
+unfolding reading readFrom readingOf headerMix dataBits dataBit splice lengthOf contentOf npduContent given Npdu.readNpdu Npdu.afterVersion Npdu.afterDest Npdu.afterSource Npdu.afterTail Npdu.partIf Npdu.noPart Npdu.tailAt Npdu.vendorAt Npdu.joined Npdu.messageAt Npdu.ended Npdu.refusedBy Apdu.readApdu Apdu.readRequest Apdu.readUnconfirmed Apdu.readComplexAck Apdu.readSegmentAck Apdu.readReject Apdu.readTail tailEnd itemsOf walk step closes ending more headAt numberAt lengthAt twoAt fourAt firstRule firstContent contentsAt wholeAt signBad signedAt contextAt applicationAt least most rebuild startsAt nextNumber sameKey sameAddress sameFields sameOctets sourceOf destinationOf partAddress absent cut reportOctets partsOf valueAt digits Npdu.partOf Npdu.partNet Npdu.partLen Npdu.addressOf Apdu.readSimpleAck Apdu.readError Apdu.readAbort
 refusals-computed First area z = refl
 refusals-computed Later area z = refl
 

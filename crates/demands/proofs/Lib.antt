@@ -19,6 +19,8 @@ pub mod ItemRows
 pub mod StateOctets
 pub mod Completed
 pub mod CompletedRun
+pub mod Keys
+pub mod RoutedRun
 pub mod Damage
 pub mod Exported
 pub mod OneExported

@@ -357,7 +357,7 @@ module _ (edition : Edition) (report area : List ℕ) (k : length report ≡ rep
 
   hush-third : one edition (trunk silence) toHeader free area .said ≡ some hushReport
   unfolding one stepOf silenceOf stillOf reportOctets digits
-  hush-third = refl
+  hush-third = rw fresh-passes
 
   abbrev hushRun : Run
   hushRun = trunk silence ∷ forget 7 ∷ []
@@ -367,7 +367,7 @@ module _ (edition : Edition) (report area : List ℕ) (k : length report ≡ rep
 
   hush-passed : playRefusal (freshCollector edition) report area hushRecords ≡ 0
   unfolding playRefusal feedRefusal
-  hush-passed = rw (eq-eqb (length report) reportSize k, eq-eqb (length area) 65536 z)
+  hush-passed = rw (eq-eqb (length report) reportSize k, eq-eqb (length area) 65536 z, fresh-passes)
 
   hush-course : playing (freshCollector edition) report area hushRecords ≡ byFront (more 1 (more 1 (play edition toHeader free area hushRun))) 0
   unfolding playing courseOf orderOf

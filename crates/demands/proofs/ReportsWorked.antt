@@ -13,6 +13,7 @@ use Rattle.apdu.specs.declared.Edition.{Edition}
 use Rattle.apdu.specs.declared.Edition.the-variants.{First, Later}
 use Rattle.trunk.specs.Reading.{readingOf, readFrom}
 use Rattle.trunk.specs.Demand.{reading}
+use Rattle.npdu.specs.Address.{sameAddress, sameFields, sameOctets, sourceOf, destinationOf, partAddress, absent}
 use Rattle.npdu.specs.Reading as Npdu
 use Rattle.apdu.specs.Reading as Apdu
 use Rattle.apdu.specs.Fields.{tailEnd}
@@ -53,7 +54,7 @@ pub as-worked : (cases : List Case) → Computes cases → AsWorked cases
 as-worked cases h d area z e o = ap (λ (e : End). e .reports) (read-by-position (freshCollector d) area (fresh d) z (runOf cases) e o) ∙ h d area z
 
 computed : Computes workedCases
-unfolding reading readFrom readingOf headerMix dataBits dataBit splice lengthOf contentOf npduContent given Npdu.readNpdu Npdu.afterVersion Npdu.afterDest Npdu.afterSource Npdu.afterTail Npdu.partIf Npdu.noPart Npdu.tailAt Npdu.vendorAt Npdu.joined Npdu.messageAt Npdu.ended Npdu.refusedBy Apdu.readApdu Apdu.readRequest Apdu.readUnconfirmed Apdu.readComplexAck Apdu.readSegmentAck Apdu.readReject Apdu.readTail tailEnd itemsOf walk step closes ending more headAt numberAt lengthAt twoAt fourAt firstRule firstContent contentsAt wholeAt signBad signedAt contextAt applicationAt least most rebuild startsAt nextNumber sameKey reportOctets partsOf valueAt digits
+unfolding reading readFrom readingOf headerMix dataBits dataBit splice lengthOf contentOf npduContent given Npdu.readNpdu Npdu.afterVersion Npdu.afterDest Npdu.afterSource Npdu.afterTail Npdu.partIf Npdu.noPart Npdu.tailAt Npdu.vendorAt Npdu.joined Npdu.messageAt Npdu.ended Npdu.refusedBy Apdu.readApdu Apdu.readRequest Apdu.readUnconfirmed Apdu.readComplexAck Apdu.readSegmentAck Apdu.readReject Apdu.readTail tailEnd itemsOf walk step closes ending more headAt numberAt lengthAt twoAt fourAt firstRule firstContent contentsAt wholeAt signBad signedAt contextAt applicationAt least most rebuild startsAt nextNumber sameKey sameAddress sameFields sameOctets sourceOf destinationOf partAddress absent reportOctets partsOf valueAt digits
 computed First area z = refl
 computed Later area z = refl
 

@@ -10,7 +10,9 @@ use lib.ListN.{drop}
 use borrow.Author.Tests.{eqb-true, eqb-false}
 use Rattle.octets.specs.Choice.{by-test, impossible, given-true}
 use Rattle.octets.specs.Reading.{oct}
+use Rattle.npdu.specs.Address.{sourceOf, destinationOf, partAddress, absent}
 use Rattle.npdu.specs.Reading.{readNpdu}
+use Rattle.npdu.specs.declared.Npdu.{Npdu}
 use Rattle.apdu.specs.Reading.{readApdu}
 use Rattle.apdu.specs.Fields.{paramsAt}
 use Rattle.apdu.specs.declared.Edition.{Edition}
@@ -34,6 +36,7 @@ use Rattle.collector.specs.Frame.{Content, contentOf, segmentIn, byTags, segmen
 use Rattle.collector.specs.Frame.Content.{message}
 use Rattle.collector.specs.declared.heard.Parts.{Parts}
 use Rattle.collector.proofs.Content.{tags-put, tags-turn}
+use Rattle.demands.specs.Words.{addressIn}
 use Rattle.demands.specs.Reported.{FiveOrSix, Behind, Carries, CarriesSegment, SegmentIs, SegmentReport, SegmentReported, kind4, kind5, kind6, invokeIn, choiceIn, segIn}
 use Rattle.demands.specs.Reported.CarriesSegment.{request, complex-ack}
 use Rattle.demands.proofs.FrameContent.{parts-told, parts-seg, parts-params, five-or-six, is-other, is-refused, is-network, is-bad, is-message, behind, segment-by}
@@ -48,21 +51,29 @@ module _ (edition : Edition) (h d : List ℕ) where
   not-seg : {a t : List ℕ} {g : Segment Key} {P : Type 0} (p : Pdu) → Carries edition h d a p t → segIn p ≡ false → segmentAt edition (good h d) ≡ some g → P
   not-seg {a} {t} p c e q = let k = sym (unsegmented-none edition h d a t p c e) ∙ q in impossible (cc)
 
-  -- the one that a PDU with SEG is
-  abbrev made : Pdu → List ℕ → List ℕ → Segment Key
-  made p a t =
+  -- the one that a PDU with SEG is, behind a network header n
+  abbrev made : Npdu → Pdu → List ℕ → List ℕ → Segment Key
+  made n p a t =
       record {
-        key = record { source = oct h 2; destination = oct h 1; kind = partsOf p (oct a 0) .kind; invoke = invokeIn p };
+        key = record {
+          source = oct h 2;
+          destination = oct h 1;
+          kind = partsOf p (oct a 0) .kind;
+          invoke = invokeIn p;
+          from = addressIn (n .source) (n .snet) (n .slen) (n .sadr);
+          to = addressIn (n .dest) (n .dnet) (n .dlen) (n .dadr);
+        };
         number = partsOf p (oct a 0) .segment .number;
         mor = partsOf p (oct a 0) .segment .mor;
         choice = choiceIn p;
         octets = t;
       }
 
-  made-of : {a t : List ℕ} (p : Pdu) → Carries edition h d a p t → segIn p ≡ true → segmentAt edition (good h d) ≡ some (made p a t)
+  made-of : {a t : List ℕ} (p : Pdu) (c : Carries edition h d a p t) → segIn p ≡ true → segmentAt edition (good h d) ≡ some (made (c .behind .head) p a t)
+  unfolding sourceOf destinationOf partAddress absent
   made-of {a} {t} p c e =
       segment-by edition h d (is-message edition h d c) ∙ given-true (partsOf p (oct a 0) .segment .seg) _ _ (parts-seg p (oct a 0) ∙ e)
-      ∙ rw (parts-told p (oct a 0), parts-params p (oct a 0), c .read .1)
+      ∙ rw (parts-told p (oct a 0), parts-params p (oct a 0), c .read .1, ← c .behind .read .header)
 
   by-pdu : {a t : List ℕ} {g : Segment Key} (p : Pdu) → Carries edition h d a p t → segmentAt edition (good h d) ≡ some g → CarriesSegment edition h d a g
   unfolding partsOf

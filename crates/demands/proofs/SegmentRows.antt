@@ -5,11 +5,12 @@ use mathlib.Core.Path.{_≡_, refl, sym, ap, _∙_}
 use mathlib.Core.List.{List}
 use lib.Dec.{ltb}
 use borrow.Author.Tests.{ltb-true, ltb-false}
-use Rattle.octets.specs.Choice.{by-test}
+use Rattle.octets.specs.Choice.{by-test, given}
 use Rattle.messages.specs.Slots.{Slot, boxed}
 use Rattle.messages.specs.Rows.{startsAt, nextNumber, rebuild}
 use Rattle.messages.specs.Sound.{Apart}
 use Rattle.messages.proofs.Table.{by-the-table}
+use Rattle.npdu.specs.Address.{sameAddress, sameFields, sameOctets}
 use Rattle.rebuild.specs.View.{keys, view, sameKey, segmentOf}
 use Rattle.rebuild.specs.Calls as Rebuild
 use Rattle.rebuild.specs.declared.Key.{Key}
@@ -32,9 +33,9 @@ take-rows t g o area r later h z ok w =
     (λ e. T .0 (step-one _ w (sym (k .answer) ∙ e)), λ a. k .answer ∙ ap Rebuild.stepOf (T .1 a))
 
 pub segments-worked : SegmentsWorked
-unfolding rebuild startsAt nextNumber sameKey
+unfolding rebuild startsAt nextNumber sameKey sameAddress sameFields sameOctets given
 segments-worked area = refl
 
 pub segments-in-order : SegmentsInOrder
-unfolding rebuild startsAt nextNumber sameKey
+unfolding rebuild startsAt nextNumber sameKey sameAddress sameFields sameOctets given
 segments-in-order area = refl

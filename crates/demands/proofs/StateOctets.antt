@@ -6,16 +6,16 @@ use Rattle.frames.specs.declared.Phase.the-variants.{Hunting, Preamble, Header,
 use Rattle.collector.specs.Calls.{freshCollector}
 use Rattle.state.specs.Calls.{Loads}
 use Rattle.state.specs.Link.{linkOctets}
-use Rattle.state.specs.Slot.{slotOctets}
+use Rattle.state.specs.Slot.{addressOctets, slotOctets}
 use Rattle.state.specs.Layout.{stateOctets}
 use Rattle.state.proofs.Exact.{shaped-loads}
 use Rattle.demands.specs.StateOctets.{workedIn, StateOctets}
 
 loads : (p : Phase) → Loads (stateOctets (workedIn p)) (workedIn p)
-loads p = shaped-loads (workedIn p) (record { head = refl; store = refl; four = refl })
+loads p = shaped-loads (workedIn p) (record { head = refl; store = refl; four = refl; slots = (record { from = refl; to = refl }, (record { from = refl; to = refl }, (record { from = refl; to = refl }, (record { from = refl; to = refl }, tt)))) })
 
 pub state-octets : StateOctets
-unfolding stateOctets linkOctets slotOctets
+unfolding stateOctets linkOctets slotOctets addressOctets
 state-octets =
     record {
       laid = refl;
@@ -28,7 +28,8 @@ state-octets =
       preamble = (refl, loads Preamble);
       header = (refl, loads (Header 9));
       fresh = refl;
-      fresh-back = shaped-loads (freshCollector First) (record { head = refl; store = refl; four = refl });
+      fresh-back = shaped-loads (freshCollector First) (record { head = refl; store = refl; four = refl; slots = (record { from = refl; to = refl }, (record { from = refl; to = refl }, (record { from = refl; to = refl }, (record { from = refl; to = refl }, tt)))) });
       fresh-later = refl;
-      fresh-later-back = shaped-loads (freshCollector Later) (record { head = refl; store = refl; four = refl });
+      freed = refl;
+      fresh-later-back = shaped-loads (freshCollector Later) (record { head = refl; store = refl; four = refl; slots = (record { from = refl; to = refl }, (record { from = refl; to = refl }, (record { from = refl; to = refl }, (record { from = refl; to = refl }, tt)))) });
     }

@@ -22,7 +22,7 @@ use Rattle.messages.specs.Rows.{Answer}
 use Rattle.messages.specs.Rows.Answer.{refused, taken, completed}
 use Rattle.messages.specs.History.{Log, begun, since, joined, Rebuilt}
 use Rattle.messages.specs.History.Entry.{said}
-use Rattle.rebuild.specs.View.{keys}
+use Rattle.rebuild.specs.View.{keys, nowhere}
 use Rattle.rebuild.specs.declared.Key.{Key}
 use Rattle.collector.specs.Frame.{segmentAt}
 use Rattle.collector.specs.Calls.{freshCollector}
@@ -45,9 +45,13 @@ slotIn report = oct report 7
 abbrev pub lengthIn : List ℕ → ℕ
 lengthIn report = valueAt report 8 4
 
--- "Key: MS/TP source, MS/TP destination, PDU type, invoke ID"; the type is in the high four bits of the first APDU octet
-abbrev pub keyIn : List ℕ → Key
-keyIn report = record { source = oct report 4; destination = oct report 3; kind = oct report 5 / 16; invoke = oct report 6 }
+-- the key's "MS/TP source, MS/TP destination, PDU type, invoke ID" are in the report, the type in the high four bits of the first APDU octet; its network addresses
+-- are not: they are those of the segment that ends there
+pub record Names (report : List ℕ) (k : Key) : Type 0 where
+  pub source : k .source ≡ oct report 4
+  pub destination : k .destination ≡ oct report 3
+  pub kind : k .kind ≡ oct report 5 / 16
+  pub invoke : k .invoke ≡ oct report 6
 
 abbrev pub tagNumber : ℕ → Bool
 tagNumber n = both (leb 30 n) (leb n 39)
@@ -96,11 +100,11 @@ module _ (c : Collector) (front : Run) (x : Event) where
   lastPlace = length (heldOf (c .receiver)) + length (wire front)
 
   module _ (reports : List (ℕ × List ℕ)) (area : List ℕ) where
-    -- Of a report of kind 5: the octets of the slot that it names, from the slot's first on and as many as it says, are the accepted segments of the key that it
-    -- names since the latest segment 0, joined in number order, where that one was in the run; and the tags of these octets are good.
-    abbrev pub Whole : List ℕ → Type 0
-    Whole report =
-        let k = keyIn report in
+    -- Of a report of kind 5, where the segment g ends: the octets of the slot that it names, from the slot's first on and as many as it says, are the accepted
+    -- segments of g's key since the latest segment 0, joined in number order, where that one was in the run; and the tags of these octets are good.
+    abbrev pub Whole : List ℕ → Segment Key → Type 0
+    Whole report g =
+        let k = g .key in
         let log = heardFrom c upTo reports in
         begun keys k log ≡ true
         → (slotIn report < 4) × Rebuilt keys k log area (slotIn report) (lengthIn report) × ((n : ℕ) → itemsOf (joined (since keys k log)) ≡ bad n → ⊥)
@@ -116,12 +120,13 @@ module _ (c : Collector) (front : Run) (x : Event) where
     -- Of a report of kind 4 or 5: a segment ends at its place, its key is the one that the report names, and it has MOR or not.
     abbrev pub OfSegment : List ℕ → Bool → Type 0
     OfSegment report mor =
-        (g : Segment Key) × (segmentEnding (c .edition) (ended lastPlace (readFrom (c .receiver) (wire upTo))) ≡ some g) × (keyIn report ≡ g .key) × (g .mor ≡ mor)
+        (g : Segment Key) × (segmentEnding (c .edition) (ended lastPlace (readFrom (c .receiver) (wire upTo))) ≡ some g) × Names report (g .key) × (g .mor ≡ mor)
 
     pub record AsReported : Type 0 where
       pub with-mor : (report : List ℕ) → reportAt lastPlace reports ≡ some report → kindIn report ≡ 4 → OfSegment report true
       pub without-mor : (report : List ℕ) → reportAt lastPlace reports ≡ some report → kindIn report ≡ 5 → OfSegment report false
-      pub complete : (report : List ℕ) → reportAt lastPlace reports ≡ some report → kindIn report ≡ 5 → Whole report
+      pub complete : (report : List ℕ) → reportAt lastPlace reports ≡ some report → kindIn report ≡ 5
+          → (g : Segment Key) → segmentEnding (c .edition) (ended lastPlace (readFrom (c .receiver) (wire upTo))) ≡ some g → Whole report g
       pub bad-tags : (report : List ℕ) → reportAt lastPlace reports ≡ some report → kindIn report ≡ 6 → tagNumber (numberIn report) ≡ true
           → (g : Segment Key) → segmentEnding (c .edition) (ended lastPlace (readFrom (c .receiver) (wire upTo))) ≡ some g → WholeButTags report g
 
@@ -164,9 +169,13 @@ firstReport = 0x04 ∷ 0x00 ∷ 0x06 ∷ 0x21 ∷ 0x43 ∷ 0x3C ∷ 0x57 ∷ 0x0
 abbrev pub secondReport : List ℕ
 secondReport = 0x05 ∷ 0x00 ∷ 0x06 ∷ 0x21 ∷ 0x43 ∷ 0x38 ∷ 0x57 ∷ 0x01 ∷ 0x00 ∷ 0x00 ∷ 0x00 ∷ 0x07 ∷ 0x0E ∷ 0 ∷ 0 ∷ 0 ∷ []
 
+-- its key: no network addresses stand in its header
+abbrev pub workedKey : Key
+workedKey = record { source = 0x43; destination = 0x21; kind = 3; invoke = 0x57; from = nowhere; to = nowhere }
+
 -- however it is offered, the reports and their places are these, the message was begun in the run, and the seven octets of slot 1 are its segments' joined
 abbrev pub CompletedWorked : Type 0
 CompletedWorked = (d : Edition) (area : List ℕ) → length area ≡ 65536 → (e : End) → Called 0 (freshCollector d) area (workedFront ++ (trunk (octet 0x1C) ∷ [])) e
     → (e .reports ≡ (18, otherReport) ∷ (39, firstReport) ∷ (59, secondReport) ∷ [])
-    × (begun keys (keyIn secondReport) (heardFrom (freshCollector d) (workedFront ++ (trunk (octet 0x1C) ∷ [])) (e .reports)) ≡ true)
+    × (begun keys workedKey (heardFrom (freshCollector d) (workedFront ++ (trunk (octet 0x1C) ∷ [])) (e .reports)) ≡ true)
     × (part 16384 7 (e .area) ≡ 0x3E ∷ 0x44 ∷ 0x42 ∷ 0x39 ∷ 0x99 ∷ 0x9A ∷ 0x3F ∷ [])

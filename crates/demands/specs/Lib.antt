@@ -10,6 +10,7 @@ pub mod ItemRows
 pub mod NetworkRows
 pub mod StateOctets
 pub mod Completed
+pub mod Keys
 pub mod Damage
 pub mod Exported
 pub mod ReportsWorked

@@ -39,6 +39,7 @@ use Rattle.collector.specs.Calls.{slotsOf, Feeds, Stills}
 use Rattle.collector.specs.declared.Collector.{Collector}
 use Rattle.collector.specs.declared.Fed.{Fed}
 use Rattle.collector.specs.declared.Fell.{Fell}
+use Rattle.demands.specs.Words.{addressIn}
 
 -- ---- the 16 octets. "0: kind; 1: refusal number or 0; 2 to 4: frame type, destination, source; 5: first APDU octet; 6: invoke ID; 7: slot; 8 to 11: length,
 -- high octet first; 12: service choice. All else .. is 0." The octets 2 to 4 are the first three of a frame's head h
@@ -151,23 +152,30 @@ pub data PlainReport (e : Edition) (h d o : List ℕ) : Type 0 where
 abbrev pub FrameReports : Type 0
 FrameReports = (e : Edition) (h d o : List ℕ) → ((segmentAt e (good h d) ≡ none) × (plainAt e (good h d) ≡ o)) ↔ PlainReport e h d o
 
--- ---- the segment that a good frame carries. "Key: MS/TP source, MS/TP destination, PDU type, invoke ID."
-abbrev pub segmentOf : List ℕ → (type invoke : ℕ) → Numbered → ℕ → List ℕ → Segment Key
-segmentOf h type invoke s choice t =
+-- ---- the segment that a good frame carries. "Key: MS/TP source, MS/TP destination, PDU type, invoke ID", and "SNET, SADR, DNET and DADR from the network header"
+abbrev pub segmentOf : List ℕ → Npdu → (type invoke : ℕ) → Numbered → ℕ → List ℕ → Segment Key
+segmentOf h n type invoke s choice t =
     record {
-      key = record { source = oct h 2; destination = oct h 1; kind = type; invoke = invoke };
+      key = record {
+        source = oct h 2;
+        destination = oct h 1;
+        kind = type;
+        invoke = invoke;
+        from = addressIn (n .source) (n .snet) (n .slen) (n .sadr);
+        to = addressIn (n .dest) (n .dnet) (n .dlen) (n .dadr);
+      };
       number = s .number;
       mor = s .mor;
       choice = choice;
       octets = t;
     }
 
--- a confirmed request (type 0) or a complex ack (type 3) with SEG, in the APDU a
+-- a confirmed request (type 0) or a complex ack (type 3) with SEG, in the APDU a, behind the network header that was read
 pub data CarriesSegment (e : Edition) (h d a : List ℕ) (g : Segment Key) : Type 0 where
-  request : (p : RequestPdu) (t : List ℕ) → Carries e h d a (Request p) t → p .segment .seg ≡ true
-      → g ≡ segmentOf h 0 (p .invoke) (p .segment) (p .choice) t → CarriesSegment e h d a g
-  complex-ack : (p : ComplexAckPdu) (t : List ℕ) → Carries e h d a (ComplexAck p) t → p .segment .seg ≡ true
-      → g ≡ segmentOf h 3 (p .invoke) (p .segment) (p .choice) t → CarriesSegment e h d a g
+  request : (p : RequestPdu) (t : List ℕ) (c : Carries e h d a (Request p) t) → p .segment .seg ≡ true
+      → g ≡ segmentOf h (c .behind .head) 0 (p .invoke) (p .segment) (p .choice) t → CarriesSegment e h d a g
+  complex-ack : (p : ComplexAckPdu) (t : List ℕ) (c : Carries e h d a (ComplexAck p) t) → p .segment .seg ≡ true
+      → g ≡ segmentOf h (c .behind .head) 3 (p .invoke) (p .segment) (p .choice) t → CarriesSegment e h d a g
 
 -- g is the segment that it carries exactly when these words say so
 abbrev pub SegmentIs : Type 0

@@ -10,7 +10,7 @@ use Rattle.messages.specs.Slots.{Segment, Slot, Box, boxed, empty, slotAt}
 use Rattle.messages.specs.Rows.{Answer, rebuild}
 use Rattle.messages.specs.Rows.Answer.{refused, taken, completed}
 use Rattle.messages.specs.Table.{Answers}
-use Rattle.rebuild.specs.View.{keys, view, segmentOf}
+use Rattle.rebuild.specs.View.{keys, nowhere, view, segmentOf}
 use Rattle.rebuild.specs.Calls as Rebuild
 use Rattle.rebuild.specs.declared.Key.{Key}
 use Rattle.rebuild.specs.declared.Slots.{Slots}
@@ -37,8 +37,9 @@ abbrev pub answersTo : Box Key → List (Segment Key) → List Answer
 answersTo b [] = []
 answersTo b (g ∷ gs) = rebuild keys g b .answer ∷ answersTo (rebuild keys g b .box) gs
 
+-- a key without network addresses
 abbrev pub keyOf : ℕ → ℕ → ℕ → ℕ → Key
-keyOf source destination kind invoke = record { source = source; destination = destination; kind = kind; invoke = invoke }
+keyOf source destination kind invoke = record { source = source; destination = destination; kind = kind; invoke = invoke; from = nowhere; to = nowhere }
 
 -- a segment with n octets
 abbrev pub segment : Key → ℕ → Bool → ℕ → ℕ → Segment Key

@@ -5,8 +5,8 @@ use mathlib.Core.Logic.{_↔_, _⊎_}
 use mathlib.Core.Bool.{Bool, true, false}
 use mathlib.Core.List.{List, _++_}
 use mathlib.Core.Option.{Option, none, some}
-use lib.ListN.{length, drop, set}
-use Rattle.octets.specs.Choice.{pick}
+use lib.ListN.{length, drop, set, replicate}
+use Rattle.octets.specs.Choice.{pick, given}
 use Rattle.octets.specs.Splice.{splice}
 use Rattle.octets.specs.declared.Written.{Written}
 use Rattle.octets.specs.declared.Written.the-variants.{Wrote, Refused}
@@ -14,6 +14,10 @@ use Rattle.frames.specs.Step.{most, lengthOf}
 use Rattle.frames.specs.declared.Fed as Receiver
 use Rattle.frames.specs.declared.Phase.the-variants.{Header, Data}
 use Rattle.frames.specs.declared.Receiver.{Receiver}
+use Rattle.npdu.specs.Address.{AddressFits}
+use Rattle.npdu.specs.Valid.{Valid, HeaderFits}
+use Rattle.npdu.specs.declared.Address.{Address}
+use Rattle.npdu.specs.declared.Npdu.{Npdu}
 use Rattle.trunk.specs.Reading.{Out}
 use Rattle.trunk.specs.Demand.{outOf}
 use Rattle.messages.specs.Slots.{Segment, Slot, Box, boxed, room, empty, slotAt, slotOf}
@@ -63,17 +67,32 @@ pub data BrokenReceiver (r : Receiver) : Type 0 where
   no-length : (got : ℕ) → r .link .phase ≡ Data got → lengthOf (r .link .head) ≡ 0 → BrokenReceiver r
   long-length : (got : ℕ) → r .link .phase ≡ Data got → most < lengthOf (r .link .head) → BrokenReceiver r
 
--- "a slot holding over 16,384, or two open slots of one key"
+-- an address of a network header: there as a whole or not, and where it is not all its fields are 0
+abbrev pub addressIn : Bool → (net len : ℕ) → List ℕ → Address
+addressIn here net len adr =
+    given here (record { present = true; network = net; length = len; octets = adr }) (record { present = false; network = 0; length = 0; octets = replicate 7 0 })
+
+-- a network header that keeps the rules has the two addresses of a key
+pub record Headed (k : Key) : Type 0 where
+  pub head : Npdu
+  pub valid : Valid head
+  pub fits : HeaderFits head
+  pub source : addressIn (head .source) (head .snet) (head .slen) (head .sadr) ≡ k .from
+  pub destination : addressIn (head .dest) (head .dnet) (head .dlen) (head .dadr) ≡ k .to
+
+-- "a slot holding over 16,384, or two open slots of one key", and "an open slot whose addresses no network header gives": no header that keeps the rules has them
 pub data BrokenSlots (s : List (Slot Key)) : Type 0 where
   holds-over : (i : ℕ) → i < length s → room < slotAt keys s i .held → BrokenSlots s
   one-key : (i j : ℕ) → i < j → j < length s → slotAt keys s i .used ≡ true → slotAt keys s j .used ≡ true → slotAt keys s i .key ≡ slotAt keys s j .key → BrokenSlots s
+  no-header : (i : ℕ) → i < length s → slotAt keys s i .used ≡ true → (Headed (slotAt keys s i .key) → ⊥) → BrokenSlots s
 
 abbrev pub Broken : Collector → Type 0
 Broken c = BrokenReceiver (c .receiver) ⊎ BrokenSlots (slotsOf c)
 
--- four slots, as the type of a collector says
-abbrev pub Four : Collector → Type 0
-Four c = length (slotsOf c) ≡ 4
+-- four slots, the addresses of each in their octets, as the type of a collector says
+pub record Four (c : Collector) : Type 0 where
+  pub count : length (slotsOf c) ≡ 4
+  pub addresses : (i : ℕ) → i < 4 → AddressFits (slotAt keys (slotsOf c) i .key .from) × AddressFits (slotAt keys (slotsOf c) i .key .to)
 
 -- ---- what a writer does: f is the number that its fields deserve, 0 for none, and o its result. "61 last"; "Nothing changes unless said, and
 -- nothing past a result is written."

@@ -14,7 +14,7 @@ use Rattle.frames.specs.declared.Fell.{Fell}
 use Rattle.frames.specs.declared.Receiver.{Receiver}
 use Rattle.frames.specs.Step.{soundOf, feedOf, silenceOf, stillOf}
 use Rattle.messages.specs.Slots as Messages
-use Rattle.rebuild.specs.View.{keys, back}
+use Rattle.rebuild.specs.View.{keys, back, freeSlot}
 use Rattle.rebuild.specs.declared.Key.{Key}
 use Rattle.rebuild.specs.declared.Slots.{Slots}
 use Rattle.rebuild.proofs.Seen.{unview-view}
@@ -24,18 +24,20 @@ use Rattle.collector.specs.Frame.{bacnet}
 use Rattle.collector.specs.Calls.{passing, sized, box, slotsOf, freshCollector, Answered, feeding, stilling}
 use Rattle.collector.specs.declared.Collector.{Collector}
 use Rattle.collector.proofs.Reached.{keeps, Fair, FairAnswer, feed-fair}
+use Rattle.state.specs.Slot.{SlotShaped}
 use Rattle.state.specs.Layout.{stateSize, stateOctets}
 use Rattle.state.specs.Calls.{loadOf, Saves}
 use Rattle.state.proofs.Whole.{Shaped, fits-shaped}
 use Rattle.state.proofs.Exact.{accepted, loads-only, shaped-loads}
 use Rattle.hitchbarley.specs.Trunk.{stateBy, stateOf, bar, inside, feedBar, feedLeft, silenceBar, silenceLeft, forgotten, forgetLeft, Feeds, Stills, Forgets}
+use Rattle.hitchbarley.proofs.Sizes.{Sized, sized-seen, sized-back, sized-fed, sized-free}
 
-by-shape : (d : Edition) (r : Receiver) (s : List (Messages.Slot Key)) → length (r .link .head) ≡ 5 → length (r .store) ≡ 501 → length s ≡ 4 → Shaped (stateBy d r s)
-by-shape d r s head store four = record { head = head; store = store; four = length-map s back ∙ four }
+by-shape : (d : Edition) (r : Receiver) (s : List (Messages.Slot Key)) → length (r .link .head) ≡ 5 → length (r .store) ≡ 501 → length s ≡ 4 → Sized s → Shaped (stateBy d r s)
+by-shape d r s head store four q = record { head = head; store = store; four = length-map s back ∙ four; slots = sized-back s q }
 
 -- slots that 59 passes are four
-passing-shape : (d : Edition) (r : Receiver) (s : List (Messages.Slot Key)) → length (r .link .head) ≡ 5 → length (r .store) ≡ 501 → passing s ≡ true → Shaped (stateBy d r s)
-passing-shape d r s head store p = by-shape d r s head store (eqb-true (length s) 4 (both-left _ _ p))
+passing-shape : (d : Edition) (r : Receiver) (s : List (Messages.Slot Key)) → length (r .link .head) ≡ 5 → length (r .store) ≡ 501 → passing s ≡ true → Sized s → Shaped (stateBy d r s)
+passing-shape d r s head store p q = by-shape d r s head store (eqb-true (length s) 4 (both-left _ _ p)) q
 
 module _ (c : Collector) (f : Shaped c) where
   -- unmoved
@@ -44,6 +46,9 @@ module _ (c : Collector) (f : Shaped c) where
 
   slots-four : length (slotsOf c) ≡ 4
   slots-four = sym (length-map (slotsOf c) back) ∙ same-shaped .four
+
+  sizes : Sized (slotsOf c)
+  sizes = sized-seen (c .slots .slots) (f .slots)
 
   fed-shaped : (area piece : List ℕ) → Shaped (stateOf (c .edition) (box (c .edition) .feed (c .receiver) (slotsOf c) area piece))
   unfolding feedOf
@@ -55,7 +60,7 @@ module _ (c : Collector) (f : Shaped c) where
       let F : Fair (c .receiver) (slotsOf c) area = record { receiver = record { left = o; head = f .head; store = f .store }; slots = p; area = z } in
       let d = box (c .edition) .feed (c .receiver) (slotsOf c) area piece in
       let G = feed-fair (c .edition) F piece in
-      passing-shape (c .edition) (d .state) (d .slots) (G .receiver .head) (G .receiver .store) (G .slots))
+      passing-shape (c .edition) (d .state) (d .slots) (G .receiver .head) (G .receiver .store) (G .slots) (sized-fed (c .edition) F sizes piece))
       (λ o. rw (z, p, o) same-shaped))
       (λ p. rw (z, p) same-shaped))
       (λ z. rw z same-shaped)
@@ -68,7 +73,7 @@ module _ (c : Collector) (f : Shaped c) where
   unfolding silenceOf stillOf
   silent-shaped =
       pick-case (λ (x : Fell). Shaped (stateBy (c .edition) (x .receiver) (slotsOf c))) (soundOf (c .receiver))
-      (by-shape _ _ (slotsOf c) (f .head) (f .store) slots-four) same-shaped
+      (by-shape _ _ (slotsOf c) (f .head) (f .store) slots-four sizes) same-shaped
 
   pub stilling-shaped : (report : List ℕ) → Shaped (stateOf (c .edition) (stilling c report []))
   unfolding stilling
@@ -80,7 +85,7 @@ module _ (c : Collector) (f : Shaped c) where
   forgotten-shaped n =
       pick-cases (λ (s : List (Messages.Slot Key)). Shaped (stateBy (c .edition) (c .receiver) s)) (passing (slotsOf c))
       (λ p. pick-case (λ (s : List (Messages.Slot Key)). Shaped (stateBy (c .edition) (c .receiver) s)) (soundOf (c .receiver))
-      (passing-shape (c .edition) (c .receiver) (rules keys (bacnet (c .edition)) .free n (slotsOf c)) (f .head) (f .store) (keeps (c .edition) .free n (slotsOf c) p)) same-shaped)
+      (passing-shape (c .edition) (c .receiver) (rules keys (bacnet (c .edition)) .free n (slotsOf c)) (f .head) (f .store) (keeps (c .edition) .free n (slotsOf c) p) (sized-free n (slotsOf c) sizes)) same-shaped)
       (λ _. same-shaped)
 
 -- an area that was loaded holds a state
@@ -128,7 +133,10 @@ module _ (state : List ℕ) (os : Octets state) where
 
 -- a fresh state
 fresh-shaped : (d : Edition) → Shaped (freshCollector d)
-fresh-shaped d = record { head = length-replicate {A = ℕ} 5 0; store = length-replicate {A = ℕ} 501 0; four = refl }
+fresh-shaped d = record { head = length-replicate {A = ℕ} 5 0; store = length-replicate {A = ℕ} 501 0; four = refl; slots = (none, (none, (none, (none, tt)))) }
+  where
+    none : SlotShaped freeSlot
+    none = record { from = refl; to = refl }
 
 pub saves-some : (d : Edition) (state : List ℕ) → Saves (freshCollector d) state (pick (eqb (length state) stateSize) 0 60) (pick (eqb (length state) stateSize) (stateOctets (freshCollector d)) state)
 saves-some d state = record { answer = refl; after = refl; again = λ z. rw (eq-eqb _ stateSize z) (shaped-loads (freshCollector d) (fresh-shaped d)) }

@@ -1,5 +1,6 @@
 pub mod Passed
 pub mod Fed
+pub mod Stilled
 pub mod Replayed
 pub mod Answered
 pub mod Headers
@@ -7,6 +8,7 @@ pub mod Items
 pub mod Services
 pub mod Trips
 pub mod One
+pub mod Sizes
 pub mod Kept
 pub mod Demand
 pub mod Offerable

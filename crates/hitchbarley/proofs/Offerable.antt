@@ -31,21 +31,23 @@ use Rattle.hitchbarley.specs.Offering.{Heard, toldBy, Areas, calls, Call
 use Rattle.hitchbarley.specs.Offering.Calling.{made}
 use Rattle.hitchbarley.proofs.Passed.{whole}
 use Rattle.hitchbarley.proofs.Demand.{inside-is}
+use Rattle.hitchbarley.proofs.Sizes.{Sized, sized-back, sized-fed, sized-still, sized-freed, sized-loaded}
 
 told-back : (x : Option (List ℕ)) (report : List ℕ) → x ≡ toldBy (flag (saidSo x)) (written x report)
 told-back none report = refl
 told-back (some y) report = refl
 
 -- what passes 59 has its arrays, so its octets are loaded as it
-fair-loads : (d : Edition) (x : Boxed) → FairAt x → Loads (stateOctets (stateBy d (x .0) (x .1))) (stateBy d (x .0) (x .1))
-fair-loads d x F =
+fair-loads : (d : Edition) (x : Boxed) → FairAt x → Sized (x .1) → Loads (stateOctets (stateBy d (x .0) (x .1))) (stateBy d (x .0) (x .1))
+fair-loads d x F q =
     let four : length (x .1) ≡ 4 = eqb-true (length (x .1)) 4 (both-left _ _ (F .slots)) in
-    let h : Shaped (stateBy d (x .0) (x .1)) = record { head = F .receiver .head; store = F .receiver .store; four = length-map (x .1) back ∙ four } in
+    let h : Shaped (stateBy d (x .0) (x .1)) = record { head = F .receiver .head; store = F .receiver .store; four = length-map (x .1) back ∙ four; slots = sized-back (x .1) q } in
     shaped-loads (stateBy d (x .0) (x .1)) h
 
 -- a state area and a message area that hold what the box of an edition holds
 pub record Stands (d : Edition) (x : Boxed) (s : Areas) : Type 0 where
   pub fair : FairAt x
+  pub sizes : Sized (x .1)
   pub loads : Loads (s .0) (stateBy d (x .0) (x .1))
   pub area : s .1 ≡ x .2
 
@@ -63,8 +65,8 @@ module _ (d : Edition) (x : Boxed) (s : Areas) (S : Stands d x s) where
   long = ap length (S .area) ∙ eqb-true (length (x .2)) 65536 (S .fair .area)
 
   -- what a call leaves
-  left-by : (y : Boxed) → FairAt y → Stands d y (stateOctets (stateBy d (y .0) (y .1)), y .2)
-  left-by y F = record { fair = F; loads = fair-loads d y F; area = refl }
+  left-by : (y : Boxed) → FairAt y → Sized (y .1) → Stands d y (stateOctets (stateBy d (y .0) (y .1)), y .2)
+  left-by y F q = record { fair = F; sizes = q; loads = fair-loads d y F q; area = refl }
 
   module _ (piece : List ℕ) (n : ℕ) (said : Option (List ℕ)) (y : Boxed) (q : answer n said (y .0) (y .1) (y .2) ≡ box d .feed (x .0) (x .1) (x .2) piece) where
     fed : feeding (inside (s .0)) blank (s .1) piece ≡ answer n said (y .0) (y .1) (y .2)
@@ -81,6 +83,9 @@ module _ (d : Edition) (x : Boxed) (s : Areas) (S : Stands d x s) where
     fair-fed : FairAt y
     fair-fed = subst FairAnswer (sym q) (feed-fair d (S .fair) piece)
 
+    sizes-fed : Sized (y .1)
+    sizes-fed = subst (λ (w : Answered). Sized (w .slots)) (sym q) (sized-fed d (S .fair) (S .sizes) piece)
+
     feeds : Feeds (s .0) blank (s .1) piece (feedRefusal (inside (s .0)) blank (s .1)) n (flag (saidSo said)) (stateOctets (stateBy d (y .0) (y .1))) (written said blank) (y .2)
     feeds =
         record {
@@ -90,7 +95,7 @@ module _ (d : Edition) (x : Boxed) (s : Areas) (S : Stands d x s) where
           stateAfter = sym (ap (λ (d : Left). d .state) left-fed);
           reportAfter = sym (ap (λ (d : Left). d .report) left-fed);
           areaAfter = sym (ap (λ (d : Left). d .area) left-fed);
-          again = λ _. rw edition-is (subst (λ (w : Answered). Loads (stateOctets (stateBy d (y .0) (y .1))) (stateOf d w)) (sym fed) (fair-loads d y fair-fed));
+          again = λ _. rw edition-is (subst (λ (w : Answered). Loads (stateOctets (stateBy d (y .0) (y .1))) (stateOf d w)) (sym fed) (fair-loads d y fair-fed sizes-fed));
         }
 
   module _ (said : Option (List ℕ)) (y : Boxed) (q : answer 0 said (y .0) (y .1) (y .2) ≡ box d .still (x .0) (x .1) (x .2)) where
@@ -111,6 +116,9 @@ module _ (d : Edition) (x : Boxed) (s : Areas) (S : Stands d x s) where
     fair-fell : FairAt y
     fair-fell = subst FairAnswer (sym q) (still-fair d (S .fair))
 
+    sizes-fell : Sized (y .1)
+    sizes-fell = subst (λ (w : Answered). Sized (w .slots)) (sym q) (sized-still d (S .fair) (S .sizes))
+
     stills : Stills (s .0) blank (silenceRefusal (inside (s .0)) blank) (flag (saidSo said)) (stateOctets (stateBy d (y .0) (y .1))) (written said blank)
     stills =
         record {
@@ -118,7 +126,7 @@ module _ (d : Edition) (x : Boxed) (s : Areas) (S : Stands d x s) where
           spoke = sym (ap (λ (d : Left). d .reported) left-fell ∙ ap (λ (d : Answered). flag (saidSo (d .said))) fell);
           stateAfter = sym (ap (λ (d : Left). d .state) left-fell ∙ ap (λ (w : Answered). stateOctets (stateOf d w)) fell);
           reportAfter = sym (ap (λ (d : Left). d .report) left-fell ∙ ap (λ (d : Answered). written (d .said) blank) fell);
-          again = λ _. rw edition-is (subst (λ (w : Answered). Loads (stateOctets (stateBy d (y .0) (y .1))) (stateOf d w)) (sym fell) (fair-loads d y fair-fell));
+          again = λ _. rw edition-is (subst (λ (w : Answered). Loads (stateOctets (stateBy d (y .0) (y .1))) (stateOf d w)) (sym fell) (fair-loads d y fair-fell sizes-fell));
         }
 
     same-area : y .2 ≡ s .1
@@ -135,12 +143,15 @@ module _ (d : Edition) (x : Boxed) (s : Areas) (S : Stands d x s) where
     fair-freed : FairAt y
     fair-freed = subst FairAt (sym q) (free-fair d (S .fair) i)
 
+    sizes-freed : Sized (y .1)
+    sizes-freed = subst (λ (w : Boxed). Sized (w .1)) (sym q) (sized-freed d (S .fair) (S .sizes) i)
+
     forgets : Forgets (s .0) i (forgetLeft (s .0) i .number) (stateOctets (stateBy d (y .0) (y .1)))
     forgets =
         record {
           number = refl;
           stateAfter = sym left-freed;
-          again = λ _. subst (Loads (stateOctets (stateBy d (y .0) (y .1)))) (sym freed) (fair-loads d y fair-freed);
+          again = λ _. subst (Loads (stateOctets (stateBy d (y .0) (y .1)))) (sym freed) (fair-loads d y fair-freed sizes-freed);
         }
 
 linking : (d : Edition) → Carries (boxCalls (box d)) calls (Stands d)
@@ -158,7 +169,7 @@ linking d =
           promise = feeds d x s S piece n said y q;
           says = told-back said blank;
         },
-        left-by d x s S y (fair-fed d x s S piece n said y q),
+        left-by d x s S y (fair-fed d x s S piece n said y q) (sizes-fed d x s S piece n said y q),
       );
       stills = λ x y s said S q. (
         (stateOctets (stateBy d (y .0) (y .1)), y .2),
@@ -172,7 +183,7 @@ linking d =
           says = told-back said blank;
           area = same-area d x s S said y q;
         },
-        left-by d x s S y (fair-fell d x s S said y q),
+        left-by d x s S y (fair-fell d x s S said y q) (sizes-fell d x s S said y q),
       );
       forgets = λ x y s i S q. (
         (stateOctets (stateBy d (y .0) (y .1)), y .2),
@@ -181,7 +192,7 @@ linking d =
           promise = forgets d x s S i y q;
           area = ap (λ (x : Boxed). x .2) q ∙ sym (S .area);
         },
-        left-by d x s S y (fair-freed d x s S i y q),
+        left-by d x s S y (fair-freed d x s S i y q) (sizes-freed d x s S i y q),
       );
     }
 
@@ -197,6 +208,6 @@ some-way state c area l P z run =
     let x : Boxed = (c .receiver, slotsOf c, area) in
     let F : FairAt x = record { receiver = P .receiver; slots = P .slots; area = eq-eqb (length area) 65536 z } in
     let same : c ≡ stateBy (c .edition) (c .receiver) (slotsOf c) = whole c (c .edition) (c .receiver) (slotsOf c) refl refl refl in
-    let S : Stands (c .edition) x (state, area) = record { fair = F; loads = subst (Loads state) same l; area = refl } in
+    let S : Stands (c .edition) x (state, area) = record { fair = F; sizes = sized-loaded state c l; loads = subst (Loads state) same l; area = refl } in
     let t = carried (linking (c .edition)) {u = (state, area)} S (w .1) in
     (ends (w .0 .reports) (t .0 .0) tt (t .0 .1), widened (t .1))

@@ -23,13 +23,12 @@ use Rattle.collector.specs.declared.lent.Ate.{Ate}
 use Rattle.collector.specs.declared.lent.Hushed.{Hushed}
 use Rattle.collector.specs.declared.lent.Freed.{Freed}
 use Rattle.records.specs.Flag.{flag}
-use Rattle.state.specs.Link.{linkSize, linkOctets}
 use Rattle.state.specs.Edition.{editionOf}
-use Rattle.state.specs.Layout.{slotsPlace, slotsSize, stateSize, storePart, slotsOctets, stateOctets}
-use Rattle.state.specs.Calls.{loadOf, liftOf, Lays, Saves}
+use Rattle.state.specs.Layout.{stateSize, storePart, stateOctets}
+use Rattle.state.specs.Calls.{loadOf, liftOf, LaysSlots, Saves}
 use Rattle.state.specs.declared.Lifted.{Lifted}
 use Rattle.state.proofs.Exact.{accepted-size, accepted-store}
-use Rattle.state.proofs.Places.{Holds, accepted-holds, holds-octets, holds-loads, link-over, slots-over}
+use Rattle.state.proofs.Places.{Holds, accepted-holds, holds-octets, holds-loads, slots-over}
 use Rattle.hitchbarley.specs.Trunk.{Left, barred, stateBy, stateOf, passed, bar, inside, feedBar, feedLeft, silenceBar, silenceLeft, forgetNumberOf, forgotten, forgetLeft, Feeds, Stills, Forgets}
 
 -- a state by its parts
@@ -173,11 +172,6 @@ module _ (state report : List ℕ) where
           again = λ b. holds-loads h′;
         }
 
-    -- with the link laid back
-    pub stills-laid : Octets state → w .refused ≡ 0 → {f : Hushed} {r : ℕ} {state′ report′ : List ℕ} → Hushes (w .link) (w .slots) report f report′
-        → Lays 0 linkSize (linkOctets (f .link)) state r state′ → Stills state report (f .refused) (flag (f .reported)) state′ report′
-    stills-laid os z y d = stills-on z y (link-over (lifted-holds state os e z) d)
-
 -- ---- forgetting
 module _ (state : List ℕ) (i : ℕ) (w : Lifted) (e : w ≡ liftOf state) where
   forget-sizes : bar true state ≡ w .refused
@@ -204,5 +198,5 @@ module _ (state : List ℕ) (i : ℕ) (w : Lifted) (e : w ≡ liftOf state) wher
 
   -- with the slots laid back
   pub forgets-laid : Octets state → w .refused ≡ 0 → {f : Freed} {r : ℕ} {state′ : List ℕ} → Frees (w .link) (w .slots) i f
-      → Lays slotsPlace slotsSize (slotsOctets (f .slots .slots)) state r state′ → Forgets state i (f .number) state′
+      → LaysSlots (f .slots) state r state′ → Forgets state i (f .number) state′
   forgets-laid os z y d = forgets-on z y (slots-over (lifted-holds state os e z) d)

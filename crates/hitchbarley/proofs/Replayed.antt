@@ -13,8 +13,8 @@ use Rattle.collector.specs.Lent.{over}
 use Rattle.collector.specs.declared.Collector.{Collector}
 use Rattle.records.specs.Flag.{flag}
 use Rattle.state.specs.Link.{linkSize, linkOctets}
-use Rattle.state.specs.Layout.{storePlace, storeSize, slotsPlace, slotsSize, storePart, slotsOctets}
-use Rattle.state.specs.Calls.{liftOf, Lays}
+use Rattle.state.specs.Layout.{storePlace, storeSize, storePart}
+use Rattle.state.specs.Calls.{liftOf, Lays, LaysSlots}
 use Rattle.state.specs.declared.Lifted.{Lifted}
 use Rattle.state.proofs.Places.{Holds, holds-octets, holds-loads, store-over, link-over, slots-over}
 use Rattle.playback.specs.Calls.{Plays}
@@ -80,5 +80,5 @@ module _ (state report area o : List ℕ) where
 
     pub replays-moved : Octets state → w .refused ≡ 0 → {f : Went} {r r′ : ℕ} {s linked state′ report′ area′ : List ℕ} → Lent.Replays (w .edition) (w .link) (w .slots) (storePart state) report area o f s report′ area′
         → length s ≡ storeSize → Lays 0 linkSize (linkOctets (f .link)) (take storePlace state ++ (s ++ drop storeSize (drop storePlace state))) r linked
-        → Lays slotsPlace slotsSize (slotsOctets (f .slots .slots)) linked r′ state′ → Replays state report area o (f .refused) (f .eaten) (flag (f .reported)) state′ report′ area′
+        → LaysSlots (f .slots) linked r′ state′ → Replays state report area o (f .refused) (f .eaten) (flag (f .reported)) state′ report′ area′
     replays-moved os z {s = s} y n d d′ = replays-on z y refl (slots-over (link-over (store-over (lifted-holds state os e z) s n) d) d′)

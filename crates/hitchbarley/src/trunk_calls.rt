@@ -1,12 +1,14 @@
 // One trunk: its state is octets that the caller lends.
 use collector::Collector;
 use collector::frame;
+use collector::heard;
+use collector::heard::Told;
 use collector::lent;
 use frames::Outcome;
 ghost use Rattle.collector.specs.Calls.{freshCollector};
 ghost use Rattle.state.specs.Calls.{Saves};
 ghost use Rattle.state.specs.Edition.{editionOf};
-ghost use Rattle.hitchbarley.specs.Feeding.{Judged, Framed, FrameActs};
+ghost use Rattle.hitchbarley.specs.Feeding.{Judged, Framed, FrameActs, Heeded, SegmentActs};
 ghost use Rattle.hitchbarley.specs.Trunk.{Feeds, Stills, Forgets};
 
 // Makes a fresh state of the edition that `later` says: 0 is 1995, any other number the later one. 0, or 60.
@@ -18,7 +20,27 @@ pub extern "C" fn hb_fresh(state: &mut [u8], later: u8) -> u8
     state::save(Collector::fresh(edition), state)
 }
 
-// A good frame, whose head and data stand in the state area: slots are lifted, and laid back, only where it carries a network header.
+// A segment, heard in the good frame whose head and data stand in the state area: slots are lifted, and laid back, for it alone.
+fn segment(state: &mut [u8], t: Told, report: &mut [u8], area: &mut [u8])
+    requires { ⌜ Heeded (now state) (now report) (now area) t ⌝ }
+    ensures { λ _. ⌜ SegmentActs (now (state .entry)) (now (area .entry)) t (now (state .exit)) (now (report .exit)) (now (area .exit)) ⌝ }
+{
+    let head = state::head_at(state);
+    let end = state::STORE + (frames::length_of(head) as usize);
+    let from = state::STORE + t.at;
+    let edition = state::edition_of(state[state::EDITION]);
+    let w = heard::heard_of(edition, head);
+    let v = t.route;
+    let m = t.parts;
+    let slots = state::slots_at(state);
+    let r = frame::take(w, v, m, &state[from..end], slots, area);
+    let slots = r.slots;
+    state::lay_slots(slots, state);
+    let step = r.answer;
+    frame::put_answer(w, m, step, report, area);
+}
+
+// A good frame, whose head and data stand in the state area.
 fn good_frame(state: &mut [u8], report: &mut [u8], area: &mut [u8])
     requires { ⌜ Framed (now state) (now report) (now area) ⌝ }
     ensures { λ _. ⌜ FrameActs (now (state .entry)) (now (area .entry)) (now (state .exit)) (now (report .exit)) (now (area .exit)) ⌝ }
@@ -27,16 +49,13 @@ fn good_frame(state: &mut [u8], report: &mut [u8], area: &mut [u8])
     let end = state::STORE + (frames::length_of(head) as usize);
     if frame::carries(head) {
         let edition = state::edition_of(state[state::EDITION]);
-        let slots = state::slots_at(state);
-        let slots = frame::act(
-            edition,
-            head,
-            &state[state::STORE..end],
-            slots,
-            report,
-            area,
-        );
-        state::lay_slots(slots, state);
+        let t = frame::hear(edition, head, &state[state::STORE..end], report);
+        let m = t.parts;
+        let part = m.segment;
+        let seg = part.seg;
+        if seg {
+            segment(state, t, report, area);
+        }
         return;
     }
     frame::put_other(head, &state[state::STORE..end], report);
@@ -109,14 +128,13 @@ pub extern "C" fn hb_silence(state: &mut [u8], report: &mut [u8], reported: &mut
     if report.len() != reports::SIZE {
         return 60;
     }
-    let o = state::lift(state);
-    let n = o.refused;
+    let s = state::still(state);
+    let n = s.refused;
     if n != 0 {
         return n;
     }
-    let link = o.link;
-    let slots = o.slots;
-    let f = lent::silence(link, slots, report);
+    let link = s.link;
+    let f = lent::hush(link, report);
     let link = f.link;
     state::lay_link(link, state);
     *reported = f.reported as u8;

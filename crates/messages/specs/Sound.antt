@@ -31,7 +31,7 @@ module _ {Key : Type 0} (K : Keys Key) where
   abbrev pub Known : List (Slot Key) → Type 0
   Known s = (i : ℕ) → i < length s → strange (slotAt K s i) ≡ false
 
-  -- 59: "a slot holding over 16,384, or two open slots of one key"
+  -- 59: "a slot holding over 16,384, or two open slots of one key", and an open slot whose key no header gives
   abbrev pub sound : List (Slot Key) → Bool
   sound [] = true
   sound (t ∷ ts) = both (leb (t .held) room) (both (non (strange t)) (both (non (twice t ts)) (sound ts)))

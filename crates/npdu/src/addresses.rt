@@ -10,13 +10,7 @@ ghost use Rattle.npdu.specs.Address.{absent, partAddress, sourceOf, dest
 pub fn no_address() -> Address
     ensures { λ r. ⌜ r ≡ absent ⌝ }
 {
-    let a = [0u8; 7];
-    Address {
-        present: false,
-        network: 0,
-        length: 0,
-        octets: a,
-    }
+    Address::NONE
 }
 
 // The address of a part, or none where the part is absent.

@@ -38,6 +38,16 @@ pub struct Address {
     pub octets: [u8; 7],
 }
 
+impl Address {
+    // No address: all zero.
+    pub const NONE: Address = Address {
+        present: false,
+        network: 0,
+        length: 0,
+        octets: [0; 7],
+    };
+}
+
 // What reading gives: a refusal number, or 0 with the header and the place where what follows it begins.
 pub struct Reading {
     pub refused: u8,

@@ -6,6 +6,7 @@ use mathlib.Core.List.{List, [], _∷_, _++_}
 use mathlib.Core.Option.{some}
 use lib.ListN.{length}
 use borrow.Author.Tests.{eq-eqb}
+use Rattle.octets.specs.Choice.{pick-case}
 use Rattle.octets.specs.Numbers.{digits}
 use Rattle.sums.specs.Sums.{headerMix}
 use Rattle.runs.specs.Run.{Run, octs}
@@ -19,7 +20,7 @@ use Rattle.rebuild.specs.declared.Key.{Key}
 use Rattle.rebuild.proofs.Page.{fresh-passes}
 use Rattle.reports.specs.Layout.{reportSize, reportOctets}
 use Rattle.collector.specs.Frame.{contentOf}
-use Rattle.collector.specs.Calls.{freshCollector, Answered, feedRefusal}
+use Rattle.collector.specs.Calls.{passing, box, freshCollector, Answered, feedRefusal}
 use Rattle.playback.specs.Layout.{recordOctets}
 use Rattle.playback.specs.Valid.{Bad}
 use Rattle.playback.specs.Valid.Bad.{kind-above}
@@ -63,14 +64,19 @@ module _ (edition : Edition) (report area : List ℕ) (k : length report ≡ rep
   unfolding stepOf headerMix lengthOf contentOf reportOctets digits
   fed-said = refl
 
+  still-free : box edition .free 0 start free ≡ free
+  still-free = pick-case (λ (s : List (Messages.Slot Key)). s ≡ free) (passing free) refl refl
+
   -- the forget order changes nothing; the frame's records are its octets fed
   whole-play : play edition start free area wholeCase ≡ more 1 fed
   unfolding one
-  whole-play = ap (more 1) (sym (feed-as-play edition frame fresh-ready) ∙ box-feed edition fresh-ready frame)
+  whole-play =
+      ap (λ (s : List (Messages.Slot Key)). more 1 (play edition start s area (octs frame))) still-free
+      ∙ ap (more 1) (sym (feed-as-play edition frame fresh-ready) ∙ box-feed edition fresh-ready frame)
 
   passed : playRefusal (freshCollector edition) report area wholeRecords ≡ 0
   unfolding playRefusal feedRefusal
-  passed = rw (eq-eqb (length report) reportSize k, eq-eqb (length area) 65536 z)
+  passed = rw (eq-eqb (length report) reportSize k, eq-eqb (length area) 65536 z, fresh-passes)
 
   third-kind : Bad 3 0 0 0
   third-kind = kind-above (omega arith)

@@ -3,4 +3,5 @@ pub mod Seen
 pub mod Giving
 pub mod Numbers
 pub mod Page
+pub mod Given
 pub mod Ways

@@ -2,12 +2,15 @@
 use mathlib.Core.Path.{_≡_, refl, sym, _∙_}
 use mathlib.Core.Bool.{true, false}
 use mathlib.Core.List.{List}
-use Prim.Native.Nat.{ℕ, _*_, _<_, _≤_}
+use Prim.Native.Nat.{ℕ, _+_, _*_, _<_, _≤_}
 use native.Mathlib.Omega.{arith}
 use lib.Dec.{eqb}
 use lib.ListN.{length}
 use borrow.Author.Tests.{eqb-true, eq-eqb}
-use Rattle.octets.specs.Choice.{both-left, both-right}
+use Rattle.octets.specs.Choice.{non, pick-case, both-left, both-true, both-false, true-both}
+use Rattle.octets.specs.Splice.{splice-length}
+use Rattle.npdu.specs.Address.{absent, sameAddress}
+use Rattle.npdu.proofs.AddressLaws.{same-exactly}
 use Rattle.messages.specs.Slots.{room, part, KeyLaws, Segment, Box, boxed}
 use Rattle.messages.specs.Rows.{Done, rebuild}
 use Rattle.messages.specs.Rows.Answer.{taken, completed}
@@ -15,11 +18,13 @@ use Rattle.messages.specs.Sound.{Good, passes}
 use Rattle.messages.specs.History.{Deed, begun, touches, Rebuilt, after, fromStart}
 use Rattle.messages.specs.History.Deed.{segment}
 use Rattle.messages.specs.Alone.{view as seenBy, own, replies, noFifty}
+use Rattle.messages.proofs.Step.{Step, stepped, fits}
+use Rattle.messages.proofs.Step.Step.{stays, frees, took}
 use Rattle.messages.proofs.Sound.{good-of, passes-rebuild, passes-forget}
 use Rattle.messages.proofs.History.{completes}
 use Rattle.messages.proofs.Laws.{others, within-taken, within-completed}
 use Rattle.messages.proofs.Alone.{undisturbed}
-use Rattle.rebuild.specs.View.{keys, sameKey, fresh, view, segmentOf}
+use Rattle.rebuild.specs.View.{keys, sameKey, givenKey, nowhere, zeroKey, fresh, view, segmentOf}
 use Rattle.rebuild.specs.Calls.{Gives, taking, Forgets}
 use Rattle.rebuild.specs.declared.Key.{Key}
 use Rattle.rebuild.specs.declared.Slots.{Slots}
@@ -34,19 +39,31 @@ unfolding sameKey
 key-laws =
     record {
       only = λ a b e.
-          let e₁ = both-right (eqb (a .source) (b .source)) _ e in
-          let e₂ = both-right (eqb (a .destination) (b .destination)) _ e₁ in
-          let s = eqb-true (a .source) (b .source) (both-left (eqb (a .source) (b .source)) _ e) in
-          let d = eqb-true (a .destination) (b .destination) (both-left (eqb (a .destination) (b .destination)) _ e₁) in
-          let k = eqb-true (a .kind) (b .kind) (both-left (eqb (a .kind) (b .kind)) _ e₂) in
-          let v = eqb-true (a .invoke) (b .invoke) (both-right (eqb (a .kind) (b .kind)) _ e₂) in
-          λ i. record { source = s i; destination = d i; kind = k i; invoke = v i };
-      self = λ a. rw (eq-eqb (a .source) (a .source) refl, eq-eqb (a .destination) (a .destination) refl, eq-eqb (a .kind) (a .kind) refl, eq-eqb (a .invoke) (a .invoke) refl);
+          let e₁ = both-true (eqb (a .invoke) (b .invoke)) _ e in
+          let e₂ = both-true (eqb (a .source) (b .source)) _ (e₁ .1) in
+          let e₃ = both-true (eqb (a .destination) (b .destination)) _ (e₂ .1) in
+          let e₄ = both-true (eqb (a .kind) (b .kind)) _ (e₃ .1) in
+          let e₅ = both-true (sameAddress (a .from) (b .from)) _ (e₄ .1) in
+          let v = eqb-true (a .invoke) (b .invoke) (e₁ .0) in
+          let s = eqb-true (a .source) (b .source) (e₂ .0) in
+          let d = eqb-true (a .destination) (b .destination) (e₃ .0) in
+          let k = eqb-true (a .kind) (b .kind) (e₄ .0) in
+          let f = same-exactly (a .from) (b .from) .0 (e₅ .0) in
+          let t = same-exactly (a .to) (b .to) .0 (e₅ .1) in
+          λ i. record { source = s i; destination = d i; kind = k i; invoke = v i; from = f i; to = t i };
+      self = λ a.
+          rw (eq-eqb (a .invoke) (a .invoke) refl, eq-eqb (a .source) (a .source) refl, eq-eqb (a .destination) (a .destination) refl, eq-eqb (a .kind) (a .kind) refl)
+          (true-both _ _ (same-exactly (a .from) (a .from) .1 refl) (same-exactly (a .to) (a .to) .1 refl));
     }
+
+-- a free slot's addresses are none
+pub nowhere-absent : nowhere ≡ absent
+unfolding absent
+nowhere-absent = refl
 
 -- 59 passes the four free slots
 pub fresh-passes : passes keys 4 (view fresh) ≡ true
-fresh-passes = refl
+fresh-passes = rw (both-false (non (givenKey zeroKey)))
 
 -- from slots that 59 passes and an area that 60 passes
 module _ (t : Slots) (a : List ℕ) (p : passes keys 4 (view t) ≡ true) (z : length a ≡ 65536) where
@@ -69,7 +86,7 @@ module _ (t : Slots) (a : List ℕ) (p : passes keys 4 (view t) ≡ true) (z : l
   pub page-others : (g : Segment Key) (j : ℕ) → j < 4 → touches (rebuild keys g begin .answer) j ≡ false → part (room * j) room (rebuild keys g begin .box .area) ≡ part (room * j) room a
   page-others g j l = others keys key-laws g begin fair j (rw four l)
 
-  -- what the call leaves passes 59 and 60 again, and its answer names a slot and no more octets than a slot has
+  -- what the call leaves passes 59 again, if the segment's key is given, and 60, and its answer names a slot and no more octets than a slot has
   module _ (g : Asked) (o : List ℕ) {r : Taken} {later : List ℕ} (h : Gives (taking t g o a) r later) where
     abbrev done : Done Key
     done = rebuild keys (segmentOf g o) begin
@@ -77,10 +94,18 @@ module _ (t : Slots) (a : List ℕ) (p : passes keys 4 (view t) ≡ true) (z : l
     ruled : Gives done r later
     ruled = gives-by (sym (taking-on t g o a z)) h
 
-    pub take-keeps : (passes keys 4 (view (r .slots)) ≡ true) × (length later ≡ 65536)
-    take-keeps =
-        let k = passes-rebuild keys key-laws 4 (segmentOf g o) (view t) a refl p (eq-eqb (length a) 65536 z) in
-        (rw (ruled .slots) (k .0), rw (ruled .area) (eqb-true (length (done .box .area)) 65536 (k .1)))
+    pub take-keeps : givenKey (g .key) ≡ true → passes keys 4 (view (r .slots)) ≡ true
+    take-keeps k = rw (ruled .slots) (passes-rebuild keys key-laws 4 (segmentOf g o) (view t) a k p (eq-eqb (length a) 65536 z) .0)
+
+    sized-by : (d : Done Key) → Step keys (segmentOf g o) begin d → length (d .box .area) ≡ length a
+    sized-by d (stays m) = refl
+    sized-by d (frees m i f l q) = refl
+    sized-by d (took i n P) =
+        let s = splice-length a (room * i + n) o (fits keys (segmentOf g o) begin fair i n P) in
+        pick-case (λ (d : Done Key). length (d .box .area) ≡ length a) (g .mor) s s
+
+    pub take-sized : length later ≡ 65536
+    take-sized = rw (ruled .area) (sized-by done (stepped keys key-laws (segmentOf g o) begin fair) ∙ z)
 
     pub take-held : (s n : ℕ) → r .answer ≡ Held s n → (s < 4) × (n ≤ 16384)
     take-held s n e = rw four at (within-taken keys key-laws (segmentOf g o) begin fair s n (step-one (done .answer) (taken s n) (sym (ruled .answer) ∙ e)))

@@ -7,15 +7,16 @@ use Prim.Native.Nat.{ℕ, _+_, _*_, _≤_, _<_}
 use native.Mathlib.Omega.{arith}
 use lib.ListN.{length, getD, set, drop}
 use borrow.Author.Tests.{not-true, not-false, lt-ltb, le-ltb, eq-eqb, ne-eqb}
-use Rattle.octets.specs.Choice.{both}
+use Rattle.octets.specs.Choice.{both, non, both-false}
 use Rattle.octets.specs.Splice.{splice}
+use Rattle.npdu.specs.Address.{sameAddress, givesSource, givesDestination}
 use Rattle.messages.specs.Slots as Messages
 use Rattle.messages.specs.Rows as Rules
 use Rattle.messages.specs.Sound as Sound
 use Rattle.messages.proofs.Starts.{starts-zero}
 use Rattle.messages.proofs.Rows.{rebuild-open, rebuild-new, new-51, new-start, open-restart, open-52, open-53, open-on, fitted-55, fitted-54, fitted-on}
 use Rattle.messages.proofs.Sound.{sound-over, sound-strange, sound-twice, sound-on, sound-end}
-use Rattle.rebuild.specs.View.{keys, freeSlot, seen, view, segmentOf, found}
+use Rattle.rebuild.specs.View.{sameKey, givenKey, keys, freeSlot, seen, view, segmentOf, found}
 use Rattle.rebuild.specs.Calls.{Gives, taking, Forgets}
 use Rattle.rebuild.specs.declared.Key.{Key}
 use Rattle.rebuild.specs.declared.Slot.{Slot}
@@ -26,13 +27,47 @@ use Rattle.rebuild.specs.declared.Taken.{Taken}
 use Rattle.rebuild.specs.declared.search.Found.{Found}
 use Rattle.rebuild.specs.declared.search.Found.the-variants.{At, Nothing}
 use Rattle.rebuild.proofs.Lookup.{turn, meets, ends, found-at, found-none}
-use Rattle.rebuild.proofs.Seen.{seen-at, at-view, free-at, length-view, past-last, found-below, twice-free, twice-found, twice-alone}
+use Rattle.rebuild.proofs.Seen.{blank, seen-at, at-view, free-at, length-view, past-last, found-below, twice-free, twice-found, twice-alone}
 use Rattle.rebuild.proofs.Giving.{gives-by, gives-kept, gives-lost, gives-more, gives-last, taking-60, taking-on, forgets, forgets-not}
 use Rattle.rebuild.proofs.Numbers.{zero-fits}
 
 -- what a call answered is what it was asked for
 pub answered : (b v w : Bool) → b ≡ v → b ≡ w → v ≡ w
 answered b v w e q = sym e ∙ q
+
+-- ---- two keys whose numbers are the same, x whether their sources are: the same where both addresses are
+module _ (a b : Key) (i : a .invoke ≡ b .invoke) (s : a .source ≡ b .source) (d : a .destination ≡ b .destination) (k : a .kind ≡ b .kind)
+    {x : Bool} (e : x ≡ sameAddress (a .from) (b .from)) where
+  by-addresses : sameKey a b ≡ both x (sameAddress (a .to) (b .to))
+  unfolding sameKey
+  by-addresses =
+      rw (eq-eqb (a .invoke) (b .invoke) i, eq-eqb (a .source) (b .source) s, eq-eqb (a .destination) (b .destination) d, eq-eqb (a .kind) (b .kind) k, e)
+
+  pub same-ends : {y : Bool} → x ≡ true → y ≡ sameAddress (a .to) (b .to) → y ≡ sameKey a b
+  same-ends q f = f ∙ sym (by-addresses ∙ ap (λ (z : Bool). both z (sameAddress (a .to) (b .to))) q)
+
+  pub other-ends : x ≡ false → false ≡ sameKey a b
+  other-ends q = sym (by-addresses ∙ ap (λ (z : Bool). both z (sameAddress (a .to) (b .to))) q)
+
+-- ---- whether a key is given, x whether its source is
+module _ (k : Key) {x : Bool} (e : x ≡ givesSource (k .from)) where
+  pub given-by : {y : Bool} → x ≡ true → y ≡ givesDestination (k .to) → y ≡ givenKey k
+  unfolding givenKey
+  given-by q f = f ∙ ap (λ (z : Bool). both z (givesDestination (k .to))) (sym q ∙ e)
+
+  pub not-given : x ≡ false → false ≡ givenKey k
+  unfolding givenKey
+  not-given q = ap (λ (z : Bool). both z (givesDestination (k .to))) (sym q ∙ e)
+
+-- ---- whether a slot is open, u, with a key that is not given; b: whether it is given
+pub strange-free : (u v : Bool) → not u ≡ true → false ≡ both (non v) u
+strange-free u v n = sym (ap (both (non v)) (not-true u n) ∙ both-false (non v))
+
+pub strange-not : (u v b : Bool) → b ≡ v → b ≡ true → false ≡ both (non v) u
+strange-not u v b e q = ap (λ (x : Bool). both (non x) u) (sym q ∙ e)
+
+pub strange-here : (u v b : Bool) → not u ≡ false → b ≡ v → b ≡ false → true ≡ both (non v) u
+strange-here u v b n e q = sym (not-false u n) ∙ ap (λ (x : Bool). both (non x) u) (sym q ∙ e)
 
 -- ---- a slot that is free is open to no key; one that is used, where the keys are the same
 pub closed-to : (u v : Bool) → not u ≡ true → false ≡ both u v
@@ -61,12 +96,12 @@ module _ (f : Messages.Slot Key → Bool) (t : Slots) (start : ℕ) where
     passes-by : s < 4 → f (Messages.slotAt keys (view t) s) ≡ false → Looking f t start (s + 1)
     passes-by h e = let k = length-view t 4 (w .four) in record { four = w .four; same = w .same ∙ turn f (Messages.empty keys) (view t) s (omega arith) e }
 
-    module _ (h : s < 4) (b : Bool) (e : b ≡ f (seen (getD (t .slots) s freeSlot))) where
+    module _ (h : s < 4) (b : Bool) (e : b ≡ f (seen (getD (t .slots) s blank))) where
       pub looks-here : b ≡ true → At s ≡ found start (Messages.lowest f (drop start (view t)))
-      looks-here q = finds h (at-view f t s ∙ sym e ∙ q)
+      looks-here q = let k = w .four in finds h (at-view f t s (omega arith) ∙ sym e ∙ q)
 
       pub looks-on : b ≡ false → Looking f t start (s + 1)
-      looks-on q = passes-by h (at-view f t s ∙ sym e ∙ q)
+      looks-on q = let k = w .four in passes-by h (at-view f t s (omega arith) ∙ sym e ∙ q)
 
 -- the lowest free slot
 module _ (t : Slots) (s : ℕ) (w : Looking (Messages.isFree keys) t 0 s) where
@@ -74,11 +109,20 @@ module _ (t : Slots) (s : ℕ) (w : Looking (Messages.isFree keys) t 0 s) where
   free-past h = looks-past (Messages.isFree keys) t 0 s w h
 
   module _ (h : s < 4) where
-    pub free-here : not (getD (t .slots) s freeSlot .used) ≡ true → At s ≡ found 0 (Messages.lowest (Messages.isFree keys) (view t))
-    free-here n = finds (Messages.isFree keys) t 0 s w h (free-at t s false (not-true _ n))
+    pub free-here : not (getD (t .slots) s blank .used) ≡ true → At s ≡ found 0 (Messages.lowest (Messages.isFree keys) (view t))
+    free-here n = let k = w .four in finds (Messages.isFree keys) t 0 s w h (free-at t s (omega arith) false (not-true _ n))
 
-    pub free-on : not (getD (t .slots) s freeSlot .used) ≡ false → Looking (Messages.isFree keys) t 0 (s + 1)
-    free-on n = passes-by (Messages.isFree keys) t 0 s w h (free-at t s true (not-false _ n))
+    pub free-on : not (getD (t .slots) s blank .used) ≡ false → Looking (Messages.isFree keys) t 0 (s + 1)
+    free-on n = let k = w .four in passes-by (Messages.isFree keys) t 0 s w h (free-at t s (omega arith) true (not-false _ n))
+
+-- a slot whose key has another invoke ID than k is not open to k
+module _ (k : Key) (t : Slots) (start s : ℕ) (w : Looking (Messages.openTo keys k) t start s) (h : s < 4) where
+  pub looks-other : (getD (t .slots) s blank .key .invoke ≡ k .invoke → ⊥) → Looking (Messages.openTo keys k) t start (s + 1)
+  unfolding sameKey
+  looks-other n =
+      let x = getD (t .slots) s blank in
+      let e : Messages.openTo keys k (seen x) ≡ false = rw (ne-eqb (x .key .invoke) (k .invoke) n) (both-false (x .used)) in
+      looks-on (Messages.openTo keys k) t start s w h false (sym e) refl
 
 -- what a search of the four slots finds is one of them
 pub found-here : (p : Messages.Slot Key → Bool) (t : Slots) (f : Found) → f ≡ found 0 (Messages.lowest p (view t))
@@ -86,17 +130,17 @@ pub found-here : (p : Messages.Slot Key → Bool) (t : Slots) (f : Found) → f 
 found-here p t f e s q k = found-below p t s 4 k (found-at _ s (sym e ∙ q))
 
 -- ---- whether slot s is open and a later open slot has its key, f being what the search from start on found
-module _ (t : Slots) (s : ℕ) (rest : List (Messages.Slot Key)) where
-  pub once-free : not (getD (t .slots) s freeSlot .used) ≡ true → false ≡ Sound.twice keys (Messages.slotAt keys (view t) s) rest
-  once-free n = sym (twice-free t s rest (not-true _ n))
+module _ (t : Slots) (s : ℕ) (rest : List (Messages.Slot Key)) (k : length (t .slots) ≡ 4) (h : s < 4) where
+  pub once-free : not (getD (t .slots) s blank .used) ≡ true → false ≡ Sound.twice keys (Messages.slotAt keys (view t) s) rest
+  once-free n = sym (twice-free t s rest (omega arith) (not-true _ n))
 
-  module _ (start : ℕ) (n : not (getD (t .slots) s freeSlot .used) ≡ false) (f : Found)
-      (e : f ≡ found start (Messages.lowest (Messages.openTo keys (getD (t .slots) s freeSlot .key)) rest)) where
+  module _ (start : ℕ) (n : not (getD (t .slots) s blank .used) ≡ false) (f : Found)
+      (e : f ≡ found start (Messages.lowest (Messages.openTo keys (getD (t .slots) s blank .key)) rest)) where
     pub twice-there : (j : ℕ) → f ≡ At j → true ≡ Sound.twice keys (Messages.slotAt keys (view t) s) rest
-    twice-there j q = sym (twice-found t s start rest (not-false _ n) j (sym e ∙ q))
+    twice-there j q = sym (twice-found t s start rest (omega arith) (not-false _ n) j (sym e ∙ q))
 
     pub once-there : f ≡ Nothing → false ≡ Sound.twice keys (Messages.slotAt keys (view t) s) rest
-    once-there q = sym (twice-alone t s start rest (not-false _ n) (sym e ∙ q))
+    once-there q = sym (twice-alone t s start rest (omega arith) (not-false _ n) (sym e ∙ q))
 
 -- ---- 59's test, at slot s: the slots below are sound
 pub record Passing (t : Slots) (s : ℕ) : Type 0 where
@@ -118,37 +162,50 @@ module _ (t : Slots) (s : ℕ) (w : Passing t s) where
     within : s < length (view t)
     within = let k = length-view t 4 (w .four) in omega arith
 
-    held-here : Messages.slotAt keys (view t) s .held ≡ getD (t .slots) s freeSlot .held
-    held-here = at-view (λ (x : Messages.Slot Key). x .held) t s
+    inside : s < length (t .slots)
+    inside = let k = w .four in omega arith
 
-    pub unsound-held : 16384 < getD (t .slots) s freeSlot .held → false ≡ Sound.passes keys 4 (view t)
+    held-here : Messages.slotAt keys (view t) s .held ≡ getD (t .slots) s blank .held
+    held-here = at-view (λ (x : Messages.Slot Key). x .held) t s inside
+
+    pub unsound-held : 16384 < getD (t .slots) s blank .held → false ≡ Sound.passes keys 4 (view t)
     unsound-held o = sym (tested ∙ sound-over keys (view t) s within (rw held-here o))
 
-    module _ (o : getD (t .slots) s freeSlot .held ≤ 16384) (b : Bool) (e : b ≡ Sound.strange keys (seen (getD (t .slots) s freeSlot))) where
-      strange-here : (v : Bool) → b ≡ v → Sound.strange keys (Messages.slotAt keys (view t) s) ≡ v
-      strange-here v q = at-view (Sound.strange keys) t s ∙ sym e ∙ q
+    -- a slot that is free is neither
+    pub passing-free : getD (t .slots) s blank .held ≤ 16384 → getD (t .slots) s blank .used ≡ false → Passing t (s + 1)
+    passing-free o u =
+        let x = getD (t .slots) s blank in
+        let n : Sound.strange keys (seen x) ≡ false = rw u (both-false (non (givenKey (x .key)))) in
+        record {
+          four = w .four;
+          same = w .same ∙ sound-on keys (view t) s within (rw held-here o) (at-view (Sound.strange keys) t s inside ∙ n) (twice-free t s (drop (s + 1) (view t)) inside u);
+        }
+
+    module _ (o : getD (t .slots) s blank .held ≤ 16384) (b : Bool) (e : b ≡ Sound.strange keys (seen (getD (t .slots) s blank))) where
+      is-strange : (v : Bool) → b ≡ v → Sound.strange keys (Messages.slotAt keys (view t) s) ≡ v
+      is-strange v q = at-view (Sound.strange keys) t s inside ∙ sym e ∙ q
 
       pub unsound-key : b ≡ true → false ≡ Sound.passes keys 4 (view t)
-      unsound-key q = sym (tested ∙ sound-strange keys (view t) s within (rw held-here o) (strange-here true q))
+      unsound-key q = sym (tested ∙ sound-strange keys (view t) s within (rw held-here o) (is-strange true q))
 
       module _ (q : b ≡ false) (d : Bool) (f : d ≡ Sound.twice keys (Messages.slotAt keys (view t) s) (drop (s + 1) (view t))) where
         pub unsound-twice : d ≡ true → false ≡ Sound.passes keys 4 (view t)
-        unsound-twice p = sym (tested ∙ sound-twice keys (view t) s within (rw held-here o) (strange-here false q) (sym f ∙ p))
+        unsound-twice p = sym (tested ∙ sound-twice keys (view t) s within (rw held-here o) (is-strange false q) (sym f ∙ p))
 
         pub passing-on : d ≡ false → Passing t (s + 1)
-        passing-on p = record { four = w .four; same = w .same ∙ sound-on keys (view t) s within (rw held-here o) (strange-here false q) (sym f ∙ p) }
+        passing-on p = record { four = w .four; same = w .same ∙ sound-on keys (view t) s within (rw held-here o) (is-strange false q) (sym f ∙ p) }
 
 -- ---- forgetting slot s, which is read and set at its place
 pub forget-past : (t : Slots) (s : ℕ) → length (t .slots) ≡ 4 → 3 < s → Forgets t s (record { number = 56; slots = t })
 forget-past t s k h = forgets-not t s (past-last t s (omega arith))
 
-module _ (t : Slots) (s at : ℕ) (e : at ≡ s) where
-  pub forget-free : getD (t .slots) at freeSlot .used ≡ false → Forgets t s (record { number = 56; slots = t })
-  forget-free q = forgets-not t s (at-view (λ (x : Messages.Slot Key). x .used) t s ∙ rw e at q)
+module _ (t : Slots) (s at : ℕ) (k : length (t .slots) ≡ 4) (h : s ≤ 3) (e : at ≡ s) where
+  pub forget-free : getD (t .slots) at blank .used ≡ false → Forgets t s (record { number = 56; slots = t })
+  forget-free q = forgets-not t s (at-view (λ (x : Messages.Slot Key). x .used) t s (omega arith) ∙ rw e at q)
 
-  pub forget-open : (u : Slots) → getD (t .slots) at freeSlot .used ≡ true → u .slots ≡ set (t .slots) at freeSlot
+  pub forget-open : (u : Slots) → getD (t .slots) at blank .used ≡ true → u .slots ≡ set (t .slots) at freeSlot
       → Forgets t s (record { number = 0; slots = u })
-  forget-open u q d = forgets t s u (at-view (λ (x : Messages.Slot Key). x .used) t s ∙ rw e at q) (rw e at d)
+  forget-open u q d = forgets t s u (at-view (λ (x : Messages.Slot Key). x .used) t s (omega arith) ∙ rw e at q) (rw e at d)
 
 -- ---- the answers that refuse: every slot is kept, or slot s is freed
 abbrev Kept : ℕ → Slots → Taken → Type 0
@@ -205,12 +262,12 @@ module _ (t : Slots) (g : Segment) (o area : List ℕ) where
     fits-on q h w = gives-by (fitted-on keys seg box (some s) n (sym e ∙ q) (le-ltb 16384 (n + length o) h)) w
 
   -- its key is open in slot s; b: whether it starts the message anew
-  module _ (s : ℕ) (b : Bool) (e : b ≡ Rules.startsAt (g .number) true (getD (t .slots) s freeSlot .next)) where
+  module _ (s : ℕ) (four : length (t .slots) ≡ 4) (inside : s < 4) (b : Bool) (e : b ≡ Rules.startsAt (g .number) true (getD (t .slots) s blank .next)) where
     abbrev here : Messages.Slot Key
-    here = seen (getD (t .slots) s freeSlot)
+    here = seen (getD (t .slots) s blank)
 
     by-record : {d : Rules.Done Key} {r : Taken} {later : List ℕ} → Rules.rows keys seg (some s) here box ≡ d → Gives d r later → Open s r later
-    by-record q w = gives-by (ap (λ (x : Messages.Slot Key). Rules.rows keys seg (some s) x box) (seen-at t s) ∙ q) w
+    by-record q w = gives-by (ap (λ (x : Messages.Slot Key). Rules.rows keys seg (some s) x box) (seen-at t s (omega arith)) ∙ q) w
 
     pub opens-anew : {r : Taken} {later : List ℕ} → b ≡ true → Fitted s 0 r later → Open s r later
     opens-anew q w = by-record (open-restart keys seg box s here (sym e ∙ q)) w

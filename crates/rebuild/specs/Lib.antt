@@ -1,2 +1,3 @@
 pub mod View
+pub mod Given
 pub mod Calls

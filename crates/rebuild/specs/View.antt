@@ -1,11 +1,13 @@
 -- The slots that the code keeps, as the rules see them, and the page's key.
-use mathlib.Core.Bool.{Bool, true, false}
+use mathlib.Core.Bool.{Bool, false}
 use mathlib.Core.List.{List, map}
 use mathlib.Core.Option.{Option, none, some}
 use Prim.Native.Nat.{ℕ, _+_}
 use lib.Dec.{eqb}
 use lib.ListN.{replicate}
 use Rattle.octets.specs.Choice.{both}
+use Rattle.npdu.specs.Address.{sameAddress, givesSource, givesDestination}
+use Rattle.npdu.specs.declared.Address.{Address}
 use Rattle.messages.specs.Slots as Messages
 use Rattle.rebuild.specs.declared.Key.{Key}
 use Rattle.rebuild.specs.declared.Slot.{Slot}
@@ -14,16 +16,29 @@ use Rattle.rebuild.specs.declared.Segment.{Segment}
 use Rattle.rebuild.specs.declared.search.Found.{Found}
 use Rattle.rebuild.specs.declared.search.Found.the-variants.{At, Nothing}
 
--- "Key: MS/TP source, MS/TP destination, PDU type, invoke ID": keys are the same where all four parts are
+-- "Key: MS/TP source, MS/TP destination, PDU type, invoke ID", and "SNET, SADR, DNET and DADR from the network header, absence being distinct from
+-- every present value": keys are the same where all eight parts are
 unfoldable pub sameKey : Key → Key → Bool
-sameKey a b = both (eqb (a .source) (b .source)) (both (eqb (a .destination) (b .destination)) (both (eqb (a .kind) (b .kind)) (eqb (a .invoke) (b .invoke))))
+sameKey a b =
+    both (eqb (a .invoke) (b .invoke))
+    (both (eqb (a .source) (b .source))
+    (both (eqb (a .destination) (b .destination))
+    (both (eqb (a .kind) (b .kind))
+    (both (sameAddress (a .from) (b .from)) (sameAddress (a .to) (b .to))))))
+
+-- a key that a segment can have: some header gives the source, and some the destination
+unfoldable pub givenKey : Key → Bool
+givenKey k = both (givesSource (k .from)) (givesDestination (k .to))
+
+-- no address, field by field
+abbrev pub nowhere : Address
+nowhere = record { present = false; network = 0; length = 0; octets = replicate 7 0 }
 
 abbrev pub zeroKey : Key
-zeroKey = record { source = 0; destination = 0; kind = 0; invoke = 0 }
+zeroKey = record { source = 0; destination = 0; kind = 0; invoke = 0; from = nowhere; to = nowhere }
 
--- every key is one that a header gives
 abbrev pub keys : Messages.Keys Key
-keys = record { same = sameKey; nil = zeroKey; given = λ k. true }
+keys = record { same = sameKey; nil = zeroKey; given = givenKey }
 
 -- "Freeing zeroes a slot's record"
 abbrev pub freeSlot : Slot

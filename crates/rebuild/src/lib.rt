@@ -1,20 +1,23 @@
 // Rebuilding: four slots by value, and the message area that a caller lends.
 mod rows;
-mod search;
+pub mod search;
 
 use crate::search::Found;
+use npdu::Address;
 ghost use mathlib.Core.Path.{_≡_};
 ghost use Rattle.messages.specs.Sound.{passes};
 ghost use Rattle.rebuild.specs.View.{keys, view, fresh};
 ghost use Rattle.rebuild.specs.Calls.{Gives, taking, Forgets};
 
-// "Key: MS/TP source, MS/TP destination, PDU type, invoke ID."
+// The key: MS/TP source, MS/TP destination, PDU type, invoke ID, and where the network header says that it comes from (SNET, SADR) and goes to (DNET, DADR).
 #[repr(C)]
 pub struct Key {
     pub source: u8,
     pub destination: u8,
     pub kind: u8,
     pub invoke: u8,
+    pub from: Address,
+    pub to: Address,
 }
 
 // A slot's record: the number that must come next, the service choice, the octets held. A free slot is all zero.
@@ -35,6 +38,8 @@ impl Slot {
             destination: 0,
             kind: 0,
             invoke: 0,
+            from: Address::NONE,
+            to: Address::NONE,
         },
         next: 0,
         choice: 0,
@@ -134,11 +139,14 @@ pub fn sound(slots: Slots) -> bool
         if 16384 < x.held {
             return false;
         }
-        if search::strange(x) {
-            return false;
-        }
-        if search::twice(slots, s) {
-            return false;
+        let is_open = x.used;
+        if is_open {
+            if search::strange(x) {
+                return false;
+            }
+            if search::twice(slots, s) {
+                return false;
+            }
         }
         s += 1;
     }

@@ -2,12 +2,13 @@
 use crate::Key;
 use crate::Slot;
 use crate::Slots;
+use npdu::addresses;
 ghost use mathlib.Core.Path.{_≡_};
 ghost use Prim.Native.Nat.{_+_, _≤_, _<_};
 ghost use lib.ListN.{drop};
 ghost use Rattle.messages.specs.Slots.{lowest, openTo, isFree, slotAt};
 ghost use Rattle.messages.specs.Sound as Sound;
-ghost use Rattle.rebuild.specs.View.{keys, seen, view, sameKey, found};
+ghost use Rattle.rebuild.specs.View.{keys, seen, view, sameKey, givenKey, found};
 
 // A slot's number, or none.
 pub enum Found {
@@ -15,10 +16,13 @@ pub enum Found {
     Nothing,
 }
 
-// The one place where keys are compared.
+// Where keys are compared by value: the invoke ID first, since keys differ most there, and the addresses last.
 pub fn same_key(a: Key, b: Key) -> bool
     ensures { λ r. ⌜ r ≡ sameKey a b ⌝ }
 {
+    if a.invoke != b.invoke {
+        return false;
+    }
     if a.source != b.source {
         return false;
     }
@@ -28,7 +32,14 @@ pub fn same_key(a: Key, b: Key) -> bool
     if a.kind != b.kind {
         return false;
     }
-    a.invoke == b.invoke
+    let x = a.from;
+    let y = b.from;
+    if addresses::same_address(x, y) {
+        let u = a.to;
+        let v = b.to;
+        return addresses::same_address(u, v);
+    }
+    false
 }
 
 // Whether a slot is open and has the key.
@@ -81,25 +92,34 @@ pub fn lowest_free(t: Slots) -> Found
     slot
 }
 
-// Whether a header gives the key: every key, as yet.
+// Whether a header gives both addresses of the key.
 fn key_given(k: Key) -> bool
-    ensures { λ r. ⌜ r ≡ keys .given k ⌝ }
+    ensures { λ r. ⌜ r ≡ givenKey k ⌝ }
 {
-    true
+    let a = k.from;
+    if addresses::gives_source(a) {
+        let b = k.to;
+        return addresses::gives_destination(b);
+    }
+    false
 }
 
 // Whether a slot is open with a key that no header gives.
 pub fn strange(x: Slot) -> bool
     ensures { λ r. ⌜ r ≡ Sound.strange keys (seen x) ⌝ }
 {
+    let is_open = x.used;
+    if !is_open {
+        return false;
+    }
     let k = x.key;
     if key_given(k) {
         return false;
     }
-    x.used
+    true
 }
 
-// Whether slot s is open and a later open slot has its key.
+// Whether slot s is open and a later open slot has its key. (A loop of its own, and not `open_slot`: the slots stay where they are, and keys with other invoke IDs are passed at once.)
 pub fn twice(t: Slots, s: usize) -> bool
     requires { ⌜ s < 4 ⌝ }
     ensures { λ r. ⌜ r ≡ Sound.twice keys (slotAt keys (view t) s) (drop (s + 1) (view t)) ⌝ }
@@ -110,8 +130,16 @@ pub fn twice(t: Slots, s: usize) -> bool
         return false;
     }
     let k = x.key;
-    match open_slot(t, k, s + 1) {
-        Found::At(_) => true,
-        Found::Nothing => false,
+    let mut j = s + 1;
+    while j < 4 {
+        let y = t.slots[j];
+        let l = y.key;
+        if l.invoke == k.invoke {
+            if open_to(y, k) {
+                return true;
+            }
+        }
+        j += 1;
     }
+    false
 }

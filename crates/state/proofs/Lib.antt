@@ -1,13 +1,16 @@
 pub mod Parts
+pub mod Fours
 pub mod Link
+pub mod Address
 pub mod Slot
 pub mod Edition
 pub mod Slots
+pub mod Arrays
 pub mod Whole
 pub mod Exact
 pub mod Places
 pub mod LinkFair
+pub mod Given
 pub mod SlotFair
-pub mod OneKey
 pub mod Pairs
 pub mod Fair

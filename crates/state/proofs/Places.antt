@@ -16,11 +16,11 @@ use Rattle.rebuild.specs.declared.Slots.{Slots}
 use Rattle.collector.specs.Lent.{over}
 use Rattle.collector.specs.declared.Collector.{Collector}
 use Rattle.state.specs.Link.{linkSize, linkOctets, linkGood, linkOf}
-use Rattle.state.specs.Layout.{storePlace, storeSize, editionPlace, slotsPlace, slotsSize, stateSize, linkPart, storePart, slotsOctets, behindOctets, stateOctets}
-use Rattle.state.specs.Calls.{stateGood, stateAt, loadOf, Loads, Lays}
+use Rattle.state.specs.Layout.{storePlace, storeSize, editionPlace, slotsPlace, stateSize, linkPart, storePart, slotsOctets, behindOctets, stateOctets}
+use Rattle.state.specs.Calls.{stateGood, stateAt, loadOf, Loads, Lays, LaysSlots}
 use Rattle.state.proofs.Parts.{cut-size, cut-then}
 use Rattle.state.proofs.Link.{link-size, link-shaped, link-stands, link-fits}
-use Rattle.state.proofs.Slots.{slots-size, slots-shaped}
+use Rattle.state.proofs.Slots.{slots-size}
 use Rattle.state.proofs.Whole.{Shaped, fits-shaped, front, in-front, front-long, state-size, state-back}
 use Rattle.state.proofs.Exact.{shaped-loads, loads-only, accepted}
 
@@ -84,25 +84,25 @@ module _ {o : List ℕ} {e : Edition} {l : Link} {t : Slots} {s : List ℕ} (h :
       let a : take storePlace o ≡ link = rw parts (take-at link (s ++ behind) storePlace link-long) in
       let b : drop storePlace o ≡ s ++ behind = rw parts (drop-at link (s ++ behind) storePlace link-long) in
       let d : drop storeSize (drop storePlace o) ≡ behind = rw b (drop-at s behind storeSize (h .shaped .store)) in
-      record { shaped = record { head = h .shaped .head; store = n; four = h .shaped .four }; octets = rw (a, d) }
+      record { shaped = record { head = h .shaped .head; store = n; four = h .shaped .four; slots = h .shaped .slots }; octets = rw (a, d) }
 
   -- a link, and slots, laid over those that are there
   pub link-over : {l′ : Link} {r : ℕ} {o′ : List ℕ} → Lays 0 linkSize (linkOctets l′) o r o′ → Holds o′ (over e l′ t s)
   unfolding stateOctets
   link-over {l′} y =
       let k = laid-over [] link (s ++ behind) (linkOctets l′) 0 (omega arith) (y .long ∙ sym link-long) in
-      record { shaped = record { head = link-shaped l′ (y .long); store = h .shaped .store; four = h .shaped .four }; octets = lays y ∙ rw parts k }
+      record { shaped = record { head = link-shaped l′ (y .long); store = h .shaped .store; four = h .shaped .four; slots = h .shaped .slots }; octets = lays y ∙ rw parts k }
 
-  pub slots-over : {t′ : Slots} {r : ℕ} {o′ : List ℕ} → Lays slotsPlace slotsSize (slotsOctets (t′ .slots)) o r o′ → Holds o′ (over e l t′ s)
+  pub slots-over : {t′ : Slots} {r : ℕ} {o′ : List ℕ} → LaysSlots t′ o r o′ → Holds o′ (over e l t′ s)
   slots-over {t′} {r} {o′} y =
       let q = slotsOctets (t .slots) in
       let q′ = slotsOctets (t′ .slots) in
       let w : o ≡ front e l s ++ q = h .octets ∙ sym (in-front (over e l t s)) in
-      let n : length q′ ≡ length q = y .long ∙ sym (slots-size (t .slots) (h .shaped .four)) in
+      let n : length q′ ≡ length q = y .lays .long ∙ sym (slots-size (t .slots) (h .shaped .slots) (h .shaped .four)) in
       let k : splice (front e l s ++ q) slotsPlace q′ ≡ front e l s ++ q′ = laid-last (front e l s) q q′ slotsPlace (front-long (over e l t s) (h .shaped)) n in
       record {
-        shaped = record { head = h .shaped .head; store = h .shaped .store; four = slots-shaped (t′ .slots) (y .long) };
-        octets = lays y ∙ rw w (k ∙ in-front (over e l t′ s));
+        shaped = record { head = h .shaped .head; store = h .shaped .store; four = y .four; slots = y .shaped };
+        octets = lays (y .lays) ∙ rw w (k ∙ in-front (over e l t′ s));
       }
 
   -- another receiver in front, whose link's octets are good, and what stands behind it as it was
@@ -118,6 +118,6 @@ module _ {o : List ℕ} {e : Edition} {l : Link} {t : Slots} {s : List ℕ} (h :
       let w : drop editionPlace o ≡ behind = rw (parts, ← append-assoc link s behind) (drop-at (link ++ s) behind editionPlace m) in
       let q : o′ ≡ linkPart o′ ++ (storePart o′ ++ behind) = sym a ∙ ap (λ (x : List ℕ). linkPart o′ ++ x) (sym d ∙ ap (λ (x : List ℕ). storePart o′ ++ x) (b ∙ w)) in
       record {
-        shaped = record { head = f .head; store = cut-size storeSize storePlace o′ (omega arith); four = h .shaped .four };
+        shaped = record { head = f .head; store = cut-size storeSize storePlace o′ (omega arith); four = h .shaped .four; slots = h .shaped .slots };
         octets = q ∙ ap (λ (x : List ℕ). x ++ (storePart o′ ++ behind)) (sym k);
       }

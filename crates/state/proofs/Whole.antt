@@ -17,21 +17,22 @@ use Rattle.collector.specs.declared.Collector.{Collector}
 use Rattle.records.proofs.Areas.{laid-whole, four-laid}
 use Rattle.state.specs.Link.{linkSize, linkOctets, linkGood}
 use Rattle.state.specs.Edition.{editionOctet, editionGood, editionOf}
-use Rattle.state.specs.Layout.{storePlace, storeSize, editionPlace, slotsPlace, stateSize, linkPart, storePart, editionAt, slotsOctets, behindOctets, stateOctets, Fits}
+use Rattle.state.specs.Layout.{storePlace, storeSize, editionPlace, slotsPlace, stateSize, linkPart, storePart, editionAt, slotsOctets, behindOctets, stateOctets, Fits, SlotsShaped}
 use Rattle.state.specs.Calls.{slotsGood, slotsAt, stateGood, stateAt}
 use Rattle.state.proofs.Parts.{cut-size, cut-then, join}
 use Rattle.state.proofs.Link.{link-size, link-back, link-stands, link-fits}
 use Rattle.state.proofs.Edition.{edition-back, edition-stands}
-use Rattle.state.proofs.Slots.{slots-size, slots-back, slots-stand, slots-fit, slots-count}
+use Rattle.state.proofs.Slots.{slots-size, fit-shaped, slots-back, slots-stand, slots-fit, slots-count}
 
 -- what every value of the types has: arrays of their sizes
 pub record Shaped (c : Collector) : Type 0 where
   pub head : length (c .receiver .link .head) ≡ 5
   pub store : length (c .receiver .store) ≡ storeSize
   pub four : length (c .slots .slots) ≡ slotCount
+  pub slots : SlotsShaped (c .slots .slots)
 
 pub fits-shaped : {c : Collector} → Fits c → Shaped c
-fits-shaped f = record { head = f .head; store = f .store; four = f .four }
+fits-shaped {c} f = record { head = f .head; store = f .store; four = f .four; slots = fit-shaped (c .slots .slots) (f .slots) }
 
 -- what stands in front of the slots, and that they come right behind it
 abbrev pub front : Edition → Link → List ℕ → List ℕ
@@ -62,7 +63,7 @@ module _ (c : Collector) (f : Shaped c) where
   front-long = rw (length-append, link-long, length-append, f .store)
 
   pub state-size : length (stateOctets c) ≡ stateSize
-  state-size = rw (← in-front c, length-append, front-long, slots-size (c .slots .slots) (f .four))
+  state-size = rw (← in-front c, length-append, front-long, slots-size (c .slots .slots) (f .slots) (f .four))
 
   link-stands-first : linkPart (stateOctets c) ≡ link
   unfolding stateOctets
@@ -85,7 +86,7 @@ module _ (c : Collector) (f : Shaped c) where
   state-back =
       let b = link-back (c .receiver .link) (f .head) in
       let e = edition-back (c .edition) in
-      let z = rw (in-front c, f .four) at (slots-back (front (c .edition) (c .receiver .link) store) 0 (c .slots .slots) front-long) in (
+      let z = rw (in-front c, f .four) at (slots-back (front (c .edition) (c .receiver .link) store) 0 (c .slots .slots) (f .slots) front-long) in (
         rw (edition-stands-behind, e .0, link-stands-first, store-stands-next, b .0, z .0),
         rw (link-stands-first, b .1, edition-stands-behind, e .1, z .1),
       )
@@ -96,7 +97,7 @@ module _ (c : Collector) (f : Shaped c) where
   unfolding stateOctets
   state-laid area {l₁} {l₂} {l₃} {l₄} m x e₁ e₂ e₃ e₄ =
       let n = link-long in
-      let k = slots-size (c .slots .slots) (f .four) in
+      let k = slots-size (c .slots .slots) (f .slots) (f .four) in
       let h = f .store in
       let s : l₄ ≡ splice area 0 (link ++ (store ++ (edition ++ slots))) =
       four-laid area 0 storePlace editionPlace slotsPlace link store edition slots e₁ e₂ (rw x at e₃) e₄ (omega arith) (omega arith) (omega arith) (omega arith) in
@@ -129,7 +130,7 @@ module _ (o : List ℕ) (os : Octets o) (size : length o ≡ stateSize) (good : 
         store = cut-size storeSize storePlace o (omega arith);
         storeOctets = octets-part o storePlace storeSize os;
         four = slots-count o 0 slotCount;
-        slots = slots-fit o os 0 slotCount;
+        slots = slots-fit o os 0 slotCount size;
       }
 
   pub state-stands : o ≡ stateOctets (stateAt o)

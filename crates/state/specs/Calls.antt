@@ -15,10 +15,11 @@ use Rattle.rebuild.specs.declared.Slots.{Slots}
 use Rattle.collector.specs.declared.Collector.{Collector}
 use Rattle.collector.specs.Calls.{freshCollector, slotCount, sound, slotsOf}
 use Rattle.state.specs.declared.Lifted.{Lifted}
+use Rattle.state.specs.declared.Silence.{Silence}
 use Rattle.state.specs.Link.{linkSize, linkOctets, linkGood, linkOf}
 use Rattle.state.specs.Edition.{editionGood, editionOf}
 use Rattle.state.specs.Slot.{slotGood, slotOf}
-use Rattle.state.specs.Layout.{slotsPlace, slotsSize, stateSize, linkPart, storePart, editionAt, slotPart, slotsOctets, stateOctets}
+use Rattle.state.specs.Layout.{slotsPlace, slotsSize, stateSize, linkPart, storePart, editionAt, slotPart, slotsOctets, stateOctets, SlotsShaped}
 
 -- ---- which octets are no state's: those of a part that is none
 unfoldable pub goodAt : List ℕ → ℕ → Bool
@@ -72,6 +73,11 @@ fairOf o = both (stateGood o) (sound (stateAt o .receiver) (slotsOf (stateAt o))
 unfoldable pub judgeOf : List ℕ → ℕ
 judgeOf o = pick (eqb (length o) stateSize) (pick (fairOf o) 0 59) 60
 
+-- for a silence: that number, and with 0 the link; store and slots stay in their place
+pub record Stands (o : List ℕ) (r : Silence) : Type 0 where
+  pub number : r .refused ≡ judgeOf o
+  pub link : judgeOf o ≡ 0 → r .link ≡ linkOf (linkPart o)
+
 -- ---- lifting: edition, link and slots of what the area is loaded as; its frame store stays in its place
 abbrev pub liftedAs : Loaded → Lifted
 liftedAs l = record { refused = l .refused; edition = l .state .edition; link = l .state .receiver .link; slots = l .state .slots }
@@ -85,12 +91,18 @@ pub record Lays (at n : ℕ) (xs area : List ℕ) (r : ℕ) (later : List ℕ) :
   pub after : later ≡ pick (eqb (length area) stateSize) (splice area at xs) area
   pub long : length xs ≡ n
 
+-- slots: four, their arrays of their sizes
+pub record LaysSlots (t : Slots) (area : List ℕ) (r : ℕ) (later : List ℕ) : Type 0 where
+  pub lays : Lays slotsPlace slotsSize (slotsOctets (t .slots)) area r later
+  pub four : length (t .slots) ≡ slotCount
+  pub shaped : SlotsShaped (t .slots)
+
 -- a link, and slots over what it left
 pub record LaysBoth (l : Link) (t : Slots) (area : List ℕ) (r : ℕ) (later : List ℕ) : Type 0 where
   pub number : ℕ
   pub linked : List ℕ
   pub link : Lays 0 linkSize (linkOctets l) area number linked
-  pub slots : Lays slotsPlace slotsSize (slotsOctets (t .slots)) linked r later
+  pub slots : LaysSlots t linked r later
 
 -- ---- saving: 0 and the area is the state's octets, or 60 and it is as it was
 pub record Saves (c : Collector) (area : List ℕ) (r : ℕ) (later : List ℕ) : Type 0 where

@@ -1,15 +1,19 @@
 -- What 59 asks of a state's octets, part by part: of the link, of two slots, of a slot by itself. With the edition's octet it is `fairOf` (proofs/Fair).
-use Prim.Native.Nat.{ℕ, zero, suc}
+use Prim.Native.Nat.{ℕ, zero, suc, _+_, _*_, _≤_, _<_}
+use mathlib.Core.Path.{_≡_}
 use mathlib.Core.Bool.{Bool, true}
 use mathlib.Core.List.{List}
 use lib.Dec.{leb}
 use Rattle.octets.specs.Choice.{pick, both, non}
+use Rattle.octets.specs.Reading.{oct}
 use Rattle.frames.specs.Step.{soundOf}
 use Rattle.messages.specs.Slots.{room}
 use Rattle.messages.specs.Sound.{strange}
+use Rattle.collector.specs.Calls.{slotCount}
 use Rattle.rebuild.specs.View.{keys, sameKey, seen}
 use Rattle.state.specs.Link.{linkGood}
-use Rattle.state.specs.Layout.{linkPart}
+use Rattle.state.specs.Slot.{slotSize, frontSize}
+use Rattle.state.specs.Layout.{slotPlace, linkPart}
 use Rattle.state.specs.Calls.{goodAt, slotAt, stateAt}
 
 -- the link: its octets are a link's, and not of "a state in header or data with nothing left to come, in data with a length of 0 or above 501"
@@ -46,3 +50,22 @@ alone o i n = pick (slotAt o i .used) (apartFrom o i (suc i) n) true
 abbrev pub pairsFair : List ℕ → ℕ → ℕ → Bool
 pairsFair o i zero = true
 pairsFair o i (suc n) = both (alone o i n) (pairsFair o (suc i) n)
+
+-- ---- what the quick tests say when they say yes
+
+-- octet k of no slot is above r
+abbrev pub Over : List ℕ → ℕ → ℕ → Type 0
+Over o k r = (i : ℕ) → i < slotCount → oct o (slotPlace i + k) ≤ r
+
+-- four octets from a place on as one number, the first of them lowest
+unfoldable pub fourAt : List ℕ → ℕ → ℕ
+fourAt o at = oct o at + oct o (at + 1) * 256 + oct o (at + 2) * 65536 + oct o (at + 3) * 16777216
+
+-- the slot at a place has no address: the octets behind its first nine are 0
+abbrev pub NoAddress : List ℕ → ℕ → Type 0
+NoAddress o at = (k : ℕ) → frontSize ≤ k → k < slotSize → oct o (at + k) ≡ 0
+
+-- nothing is wrong with any slot, or with two of them
+pub record AllFair (o : List ℕ) : Type 0 where
+  pub slots : slotsFair o 0 slotCount ≡ true
+  pub pairs : pairsFair o 0 slotCount ≡ true

@@ -1,8 +1,8 @@
--- The octets that a state is, and where each part stands. A state area has 547:
+-- The octets that a state is, and where each part stands. A state area has 635:
 --     0 - 8    the link
 --     9 - 509  the frame store
 --   510        the edition
---   511 - 546  the four slots, of 9 octets each
+--   511 - 634  the four slots, of 31 octets each
 -- The numbers follow from the sizes below; a link's own octets are said in Link, the edition's in Edition and a slot's in Slot.
 use Prim.Native.Nat.{ℕ, _+_, _*_, _<_}
 use mathlib.Core.Path.{_≡_}
@@ -17,7 +17,7 @@ use Rattle.collector.specs.Calls.{slotCount}
 use Rattle.collector.specs.declared.Collector.{Collector}
 use Rattle.state.specs.Link.{linkSize, linkOctets, PhaseFits}
 use Rattle.state.specs.Edition.{editionSize, editionOctet}
-use Rattle.state.specs.Slot.{slotSize, slotOctets, SlotFits}
+use Rattle.state.specs.Slot.{slotSize, slotOctets, SlotFits, SlotShaped}
 
 -- ---- the places
 abbrev pub storePlace : ℕ
@@ -72,6 +72,11 @@ stateOctets c = linkOctets (c .receiver .link) ++ (c .receiver .store ++ behindO
 abbrev pub SlotsFit : List Slot → Type 0
 SlotsFit [] = Unit {0}
 SlotsFit (x ∷ xs) = SlotFits x × SlotsFit xs
+
+-- the sizes alone
+abbrev pub SlotsShaped : List Slot → Type 0
+SlotsShaped [] = Unit {0}
+SlotsShaped (x ∷ xs) = SlotShaped x × SlotsShaped xs
 
 pub record Fits (c : Collector) : Type 0 where
   pub phase : PhaseFits (c .receiver .link .phase)

@@ -13,8 +13,8 @@ ghost use lib.ListN.{length};
 ghost use Rattle.collector.specs.Calls.{slotCount};
 ghost use Rattle.state.specs.Link.{linkSize, linkOctets, linkOf};
 ghost use Rattle.state.specs.Edition.{editionOf};
-ghost use Rattle.state.specs.Layout.{slotsPlace, slotPlace, slotsSize, stateSize, linkPart, slotsOctets};
-ghost use Rattle.state.specs.Calls.{stateAt, judgeOf, liftOf, Lays, LaysBoth, Saves};
+ghost use Rattle.state.specs.Layout.{slotPlace, stateSize, linkPart};
+ghost use Rattle.state.specs.Calls.{stateAt, judgeOf, Stands, liftOf, Lays, LaysSlots, LaysBoth, Saves};
 
 // The octets of a link, in front; where the frame store stands and ends; the edition's place; where the slots stand, and the octets of each; the octets of a state.
 pub const LINK: usize = 9;
@@ -27,7 +27,7 @@ pub const EDITION: usize = STORE_END;
 
 pub const SLOTS: usize = EDITION + 1;
 
-pub const SLOT: usize = 9;
+pub const SLOT: usize = 31;
 
 pub const SIZE: usize = SLOTS + SLOT * 4;
 
@@ -49,17 +49,50 @@ pub fn edition_of(octet: u8) -> Edition
     Edition::Later
 }
 
-// 60; 59 for octets that are no state's or a state that 59 does not pass; else 0. Judged on the octets where they stand.
+// 60; 59 for octets that are no state's or a state that 59 does not pass; else 0. Judged on the octets where they stand, the quick tests first.
 pub fn judge(area: &[u8]) -> u8
     ensures { λ r. ⌜ r ≡ judgeOf (now (area .entry)) ⌝ }
 {
     if area.len() != SIZE {
         return 60;
     }
-    if judging::fair(area) {
-        return 0;
+    if judging::link_fair(area) {
+        if area[EDITION] <= 1 {
+            if judging::all_free(area) {
+                return 0;
+            }
+            if judging::slots_fair(area) {
+                return 0;
+            }
+        }
     }
     59
+}
+
+// What a silence wants of a state: 60, 59 or 0 with the link; store and slots stay in their place in the area.
+pub struct Silence {
+    pub refused: u8,
+    pub link: Link,
+}
+
+// The same judgement, and the link. (The tests of `judge` again and no call of it: with two callers it would be laid into neither.)
+pub fn still(area: &[u8]) -> Silence
+    ensures { λ r. ⌜ Stands (now (area .entry)) r ⌝ }
+{
+    if area.len() != SIZE {
+        return loading::unlinked(60);
+    }
+    if judging::link_fair(area) {
+        if area[EDITION] <= 1 {
+            if judging::all_free(area) {
+                return loading::linked(area);
+            }
+            if judging::slots_fair(area) {
+                return loading::linked(area);
+            }
+        }
+    }
+    loading::unlinked(59)
 }
 
 // The head of the frame that a state's octets hold.
@@ -127,7 +160,7 @@ pub fn lay_link(link: Link, area: &mut [u8]) -> u8
 
 // Slots laid over those in an area of a state's size; 60 and nothing changes in any other.
 pub fn lay_slots(slots: Slots, area: &mut [u8]) -> u8
-    ensures { λ r. ⌜ Lays slotsPlace slotsSize (slotsOctets (slots .slots)) (now (area .entry)) r (now (area .exit)) ⌝ }
+    ensures { λ r. ⌜ LaysSlots slots (now (area .entry)) r (now (area .exit)) ⌝ }
 {
     if area.len() != SIZE {
         return 60;

@@ -3,22 +3,24 @@ use crate::EDITION;
 use crate::LINK;
 use crate::Lifted;
 use crate::SLOT;
+use crate::Silence;
 use crate::slot_place;
 use apdu::Edition;
 use frames::Link;
 use frames::Phase;
+use npdu::Address;
 use rebuild::Key;
 use rebuild::Slot;
 use rebuild::Slots;
 ghost use mathlib.Core.Path.{_≡_};
-ghost use Prim.Native.Nat.{_<_};
+ghost use Prim.Native.Nat.{_+_, _≤_, _<_};
 ghost use lib.ListN.{length, take, drop};
 ghost use Rattle.apdu.specs.declared.Edition.the-variants.{First};
 ghost use Rattle.collector.specs.Calls.{freshCollector, slotCount};
 ghost use Rattle.state.specs.Link.{linkSize, phaseGood, linkGood, phaseAt, linkOf};
 ghost use Rattle.state.specs.Edition.{editionGood};
-ghost use Rattle.state.specs.Slot.{slotSize, slotGood, slotOf};
-ghost use Rattle.state.specs.Layout.{stateSize};
+ghost use Rattle.state.specs.Slot.{addressSize, addressAt, slotSize, slotGood, slotOf};
+ghost use Rattle.state.specs.Layout.{stateSize, linkPart};
 ghost use Rattle.state.specs.Calls.{goodAt, slotsGood, stateGood, slotAt, loaded, liftedAs};
 
 // A refusal, beside the fresh link and slots of 1995.
@@ -36,6 +38,27 @@ pub fn refused(n: u8) -> Lifted
         link,
         slots: Slots::FREE,
     }
+}
+
+// A refused silence, beside the fresh link.
+pub fn unlinked(n: u8) -> Silence
+    ensures { λ r. ⌜ r .refused ≡ n ⌝ }
+{
+    let link = Link {
+        phase: Phase::Hunting,
+        head: [0; 5],
+        first: 0,
+    };
+    Silence { refused: n, link }
+}
+
+// The link of an area that was judged.
+pub fn linked(area: &[u8]) -> Silence
+    requires { ⌜ length (now area) ≡ stateSize ⌝ }
+    ensures { λ r. ⌜ (r .refused ≡ 0) × (r .link ≡ linkOf (linkPart (now (area .entry)))) ⌝ }
+{
+    let link = link_of(&area[0..LINK]);
+    Silence { refused: 0, link }
 }
 
 // A phase, and a count that it can have.
@@ -74,11 +97,16 @@ fn slot_good(s: &[u8]) -> bool
     requires { ⌜ length (now s) ≡ slotSize ⌝ }
     ensures { λ r. ⌜ r ≡ slotGood (now (s .entry)) ⌝ }
 {
-    s[0] <= 1
+    if s[0] <= 1 {
+        if s[9] <= 1 {
+            return s[20] <= 1;
+        }
+    }
+    false
 }
 
 // Slot i by itself.
-fn good_at(o: &[u8], i: usize) -> bool
+pub fn good_at(o: &[u8], i: usize) -> bool
     requires { ⌜ (length (now o) ≡ stateSize) × (i < slotCount) ⌝ }
     ensures { λ r. ⌜ r ≡ goodAt (now (o .entry)) i ⌝ }
 {
@@ -88,7 +116,7 @@ fn good_at(o: &[u8], i: usize) -> bool
 }
 
 // All of them.
-fn slots_good(o: &[u8]) -> bool
+pub fn slots_good(o: &[u8]) -> bool
     requires { ⌜ length (now o) ≡ stateSize ⌝ }
     ensures { λ r. ⌜ r ≡ slotsGood (now (o .entry)) 0 slotCount ⌝ }
 {
@@ -155,16 +183,37 @@ pub fn link_of(s: &[u8]) -> Link
     }
 }
 
+// The address whose eleven octets begin at a place.
+fn address_at(s: &[u8], at: usize) -> Address
+    requires { ⌜ at + addressSize ≤ length (now s) ⌝ }
+    ensures { λ r. ⌜ r ≡ addressAt (now (s .entry)) at ⌝ }
+{
+    let from = at + 4;
+    let end = at + 11;
+    let mut a = [0u8; 7];
+    octets::copy(&s[from..end], &mut a, 0);
+    Address {
+        present: 0 < s[at],
+        network: octets::pair(s[at + 1], s[at + 2]),
+        length: s[at + 3],
+        octets: a,
+    }
+}
+
 // The slot that good octets hold.
 fn slot_of(s: &[u8]) -> Slot
     requires { ⌜ length (now s) ≡ slotSize ⌝ }
     ensures { λ r. ⌜ r ≡ slotOf (now (s .entry)) ⌝ }
 {
+    let from = address_at(s, 9);
+    let to = address_at(s, 20);
     let k = Key {
         source: s[1],
         destination: s[2],
         kind: s[3],
         invoke: s[4],
+        from,
+        to,
     };
     Slot {
         used: 0 < s[0],

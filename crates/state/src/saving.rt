@@ -1,22 +1,22 @@
 // The octets of a state, laid into an area.
 use crate::EDITION;
-use crate::SLOT;
 use crate::STORE;
 use crate::slot_place;
 use apdu::Edition;
 use collector::Collector;
 use frames::Link;
 use frames::Phase;
+use npdu::Address;
 use rebuild::Slot;
 use rebuild::Slots;
 ghost use mathlib.Core.Path.{_≡_};
-ghost use Prim.Native.Nat.{_<_};
+ghost use Prim.Native.Nat.{_+_, _≤_, _<_};
 ghost use lib.ListN.{length};
 ghost use Rattle.octets.specs.Splice.{splice};
 ghost use Rattle.collector.specs.Calls.{slotCount};
 ghost use Rattle.state.specs.Link.{phaseOctets, linkOctets};
 ghost use Rattle.state.specs.Edition.{editionOctet};
-ghost use Rattle.state.specs.Slot.{slotOctets};
+ghost use Rattle.state.specs.Slot.{addressSize, numberOctets, addressOctets, frontOctets, slotOctets};
 ghost use Rattle.state.specs.Layout.{stateSize, slotsPlace, slotPlace, slotsOctets, stateOctets};
 
 // Phase and count.
@@ -40,8 +40,9 @@ fn edition_octet(edition: Edition) -> u8
     }
 }
 
-fn slot_octets(x: Slot) -> [u8; SLOT]
-    ensures { λ r. ⌜ r ≡ slotOctets x ⌝ }
+// Flag, key, number, choice and count: a slot's octets but for its addresses.
+fn front_octets(x: Slot) -> [u8; 9]
+    ensures { λ r. ⌜ r ≡ frontOctets x ⌝ }
 {
     [
         x.used as u8,
@@ -53,6 +54,18 @@ fn slot_octets(x: Slot) -> [u8; SLOT]
         x.choice,
         (x.held / 256) as u8,
         (x.held % 256) as u8,
+    ]
+}
+
+// Whether an address is there, its network number and its length.
+fn number_octets(a: Address) -> [u8; 4]
+    ensures { λ r. ⌜ r ≡ numberOctets a ⌝ }
+{
+    [
+        a.present as u8,
+        (a.network / 256) as u8,
+        (a.network % 256) as u8,
+        a.length,
     ]
 }
 
@@ -69,14 +82,30 @@ pub fn put_link(l: Link, area: &mut [u8])
     octets::put(area, 8, l.first);
 }
 
+// An address at a place.
+fn put_address(a: Address, area: &mut [u8], at: usize)
+    requires { ⌜ at + addressSize ≤ length (now area) ⌝ }
+    ensures { λ _. ⌜ now (area .exit) ≡ splice (now (area .entry)) at (addressOctets a) ⌝ }
+{
+    let n = number_octets(a);
+    let x = a.octets;
+    octets::copy(&n, area, at);
+    octets::copy(&x, area, at + 4);
+}
+
 // Slot i.
 fn put_slot(x: Slot, area: &mut [u8], i: usize)
     requires { ⌜ (length (now area) ≡ stateSize) × (i < slotCount) ⌝ }
     ensures { λ _. ⌜ now (area .exit) ≡ splice (now (area .entry)) (slotPlace i) (slotOctets x) ⌝ }
 {
     let at = slot_place(i);
-    let o = slot_octets(x);
+    let o = front_octets(x);
+    let k = x.key;
+    let from = k.from;
+    let to = k.to;
     octets::copy(&o, area, at);
+    put_address(from, area, at + 9);
+    put_address(to, area, at + 20);
 }
 
 pub fn put_slots(t: Slots, area: &mut [u8])

@@ -21,5 +21,5 @@ forget-spec =
     (λ c. search needs)
     (λ c. search needs)
     (λ c κs. search needs)
-    (λ c. search (needs, forget-open))
-    (λ c. search (needs, forget-free)))
+    (λ c. let st : tie.Start = search needs in search (needs, forget-open, four st))
+    (λ c. let st : tie.Start = search needs in search (needs, forget-free, four st)))

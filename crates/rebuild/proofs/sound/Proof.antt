@@ -1,9 +1,10 @@
 use borrow.Author.Needs.{needs}
 use Prim.Native.Nat.{_-_}
 use mathlib.Core.Path.{_≡_}
+use mathlib.Core.Logic.{⊎-elim}
 use lib.ListN.{length}
 use Rattle.rebuild.proofs.Seen.{length-of-map}
-use Rattle.rebuild.proofs.Ways.{Passing, passing-first, passing-on, unsound-held, unsound-key, unsound-twice, sound-all}
+use Rattle.rebuild.proofs.Ways.{Passing, passing-first, passing-free, passing-on, unsound-held, unsound-key, unsound-twice, sound-all}
 use Rattle.rebuild.proofs.sound.Statement.{statement}
 use Rattle.rebuild.proofs.sound.Tie as tie
 
@@ -18,6 +19,15 @@ four st = search (length-of-map, st .good)
 
 loop-holds : tie.Need-loop-holds Inv-loop μ-loop
 loop-holds c = let st : tie.Start Inv-loop μ-loop = search needs in passing-first _ (four st)
+
+-- a slot that is open was judged, one that is free need not be
+again : tie.Need-loop-again Inv-loop μ-loop
+again c =
+    let l = c .before .before .before .before .before in
+    ⊎-elim
+    (λ w. search (needs, passing-on))
+    (λ w. passing-free _ _ (l .loop .inv) (search needs) (search needs) (w .left))
+    (c .if2 .came)
 
 pub sound-spec : {M : Type 1} → statement M
 sound-spec =
@@ -35,5 +45,5 @@ sound-spec =
     (λ c. search (needs, unsound-twice))
     (λ c. search needs)
     (λ c. search needs)
-    (λ c. search (needs, passing-on))
+    again
     (λ c. search (needs, sound-all)))

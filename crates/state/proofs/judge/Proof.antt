@@ -9,5 +9,11 @@ judge-spec =
     (tie.spec
     (λ c. search (needs, judge-ways))
     (λ c κs. search needs)
+    (λ c. search needs)
+    (λ c κs. search needs)
+    (λ c. let f = c .before .all-free .ensures (c .if4 .taken) in search (needs, judge-ways))
+    (λ c κs. search needs)
+    (λ c. search (needs, judge-ways))
+    (λ c. search (needs, judge-ways))
     (λ c. search (needs, judge-ways))
     (λ c. search (needs, judge-ways)))

@@ -1,5 +1,6 @@
 use Rattle.octets.specs.Rules.{tests}
 use Rattle.rebuild.proofs.Seen.{length-of-map}
+use Rattle.state.proofs.Arrays.{slots-typed}
 use Rattle.state.proofs.Whole.{Shaped}
 use Rattle.state.proofs.Exact.{saved-loads}
 use borrow.Author.Needs.{needs}
@@ -8,7 +9,7 @@ use Rattle.state.proofs.save.Tie as tie
 
 -- the arrays' lengths, at the entry
 shaped : (st : tie.Start) → Shaped (st .args .c)
-shaped st = record { head = search needs; store = search needs; four = search (length-of-map, st .good) }
+shaped st = record { head = search needs; store = search needs; four = search (length-of-map, st .good); slots = search (slots-typed, st .good) }
 
 pub save-spec : {M : Type 1} → statement M
 save-spec =

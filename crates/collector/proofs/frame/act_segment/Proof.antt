@@ -1,5 +1,4 @@
-use Rattle.collector.proofs.Actions.{named, segment-acted}
-use Rattle.collector.proofs.Content.{segment-is}
+use Rattle.collector.proofs.Actions.{lent-seated, takes-acted}
 use borrow.Author.Needs.{needs}
 use Rattle.collector.proofs.frame.act_segment.Statement.{statement}
 use Rattle.collector.proofs.frame.act_segment.Tie as tie
@@ -8,11 +7,8 @@ pub act-segment-spec : {M : Type 1} → statement M
 act-segment-spec =
     tie.close
     (tie.spec
-    (λ c. search needs)
-    (λ c. search needs)
-    (λ c. search needs)
+    (λ c κs. search (needs, lent-seated))
     (λ c κs. search needs)
-    (λ c κs. search (needs, named))
     (λ c. search needs)
     (λ c. search needs)
-    (λ c v. search (needs, segment-acted, segment-is)))
+    (λ c. search (needs, takes-acted)))

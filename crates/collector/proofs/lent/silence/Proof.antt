@@ -1,5 +1,5 @@
+use Rattle.collector.proofs.Hushed.{hush-line, hush-slots, hush-beside}
 use borrow.Author.Needs.{needs}
-use Rattle.collector.proofs.Hushed.{hush-line, hush-slots, hush-quiet, hush-frame, hush-damage}
 use Rattle.collector.proofs.lent.silence.Statement.{statement}
 use Rattle.collector.proofs.lent.silence.Tie as tie
 
@@ -14,12 +14,4 @@ silence-spec =
     (λ c e s. search (needs, hush-slots))
     (λ c κs. search needs)
     (λ c. search needs)
-    (λ c κs. search needs)
-    (λ c. search needs)
-    (λ c κs. search needs)
-    (λ c. search needs)
-    (λ c κs. search needs)
-    (λ c. search needs)
-    (λ c e s. search (needs, hush-damage))
-    (λ c e s. search (needs, hush-quiet))
-    (λ c e s. search (needs, hush-frame)))
+    (λ c. search (needs, hush-beside)))

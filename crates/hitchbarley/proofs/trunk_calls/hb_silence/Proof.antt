@@ -1,7 +1,8 @@
 use native.Mathlib.Omega.{arith}
 use denote.Ref.{now}
 use Rattle.octets.specs.Reading.{Octets}
-use Rattle.hitchbarley.proofs.Passed.{stills-line, stills-not, stills-laid}
+use Rattle.hitchbarley.proofs.Passed.{stills-line}
+use Rattle.hitchbarley.proofs.Stilled.{still-not, still-laid}
 use borrow.Author.Needs.{needs}
 use Rattle.hitchbarley.proofs.trunk_calls.hb_silence.Statement.{statement}
 use Rattle.hitchbarley.proofs.trunk_calls.hb_silence.Tie as tie
@@ -17,10 +18,10 @@ hb-silence-spec =
     (λ c. search (needs, stills-line))
     (λ c κs. search needs)
     (λ c. search needs)
-    (λ c. search (needs, stills-not))
+    (λ c. search (needs, still-not, known))
     (λ c κs. search needs)
     (λ c κs. search needs)
     (λ c. search needs)
     (λ c. search needs)
     (λ c. search needs)
-    (λ c. search (needs, stills-laid, known)))
+    (λ c. search (needs, still-laid, known)))

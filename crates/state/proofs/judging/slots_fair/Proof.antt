@@ -1,4 +1,5 @@
-use Rattle.state.proofs.Parts.{one-by-one}
+use mathlib.Core.Path.{sym}
+use Rattle.octets.specs.Choice.{true-both}
 use borrow.Author.Needs.{needs}
 use Rattle.state.proofs.judging.slots_fair.Statement.{statement}
 use Rattle.state.proofs.judging.slots_fair.Tie as tie
@@ -9,9 +10,6 @@ slots-fair-spec =
     (tie.spec
     (λ c κs. search needs)
     (λ c κs. search needs)
+    (λ c. sym (true-both _ _ (c .before .before .before .each-quick .ensures (c .before .before .if1 .taken)) (c .before .pairs-quick .ensures (c .if2 .taken))))
     (λ c κs. search needs)
-    (λ c κs. search needs)
-    (λ c. search (needs, one-by-one))
-    (λ c. search (needs, one-by-one))
-    (λ c. search (needs, one-by-one))
-    (λ c. search (needs, one-by-one)))
+    (λ c. search needs))

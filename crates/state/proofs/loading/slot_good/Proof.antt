@@ -10,4 +10,8 @@ slot-good-spec =
     tie.close
     (tie.spec
     (λ c. search needs)
+    (λ c. search needs)
+    (λ c. search needs)
+    (λ c. search (needs, tests))
+    (λ c. search (needs, tests))
     (λ c. search (needs, tests)))

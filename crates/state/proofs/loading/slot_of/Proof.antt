@@ -8,6 +8,8 @@ unfolding slotOf
 slot-of-spec =
     tie.close
     (tie.spec
+    (λ c κs. search needs)
+    (λ c κs. search needs)
     (λ c. search needs)
     (λ c. search needs)
     (λ c. search needs)
@@ -18,4 +20,7 @@ slot-of-spec =
     (λ c. search needs)
     (λ c. search needs)
     (λ c κs. search needs)
-    (λ c. rw (c .pair .ensures)))
+    (λ c.
+    let f : tie.After-address-at = search needs in
+    let t : tie.After-address-at2 = search needs in
+    rw (c .pair .ensures, f .address-at .ensures, t .address-at2 .ensures)))

@@ -1,4 +1,5 @@
 use Rattle.rebuild.proofs.Seen.{length-of-map}
+use Rattle.state.proofs.Arrays.{slots-typed}
 use Rattle.state.proofs.Whole.{Shaped, state-laid}
 use borrow.Author.Needs.{needs}
 use Rattle.state.proofs.saving.put_state.Statement.{statement}
@@ -6,7 +7,7 @@ use Rattle.state.proofs.saving.put_state.Tie as tie
 
 -- the arrays' lengths, at the entry
 shaped : (st : tie.Start) → Shaped (st .args .c)
-shaped st = record { head = search needs; store = search needs; four = search (length-of-map, st .good) }
+shaped st = record { head = search needs; store = search needs; four = search (length-of-map, st .good); slots = search (slots-typed, st .good) }
 
 pub put-state-spec : {M : Type 1} → statement M
 put-state-spec =
