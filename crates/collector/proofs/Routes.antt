@@ -6,17 +6,18 @@ use mathlib.Core.Bool.{Bool, true, false}
 use mathlib.Core.List.{List, _++_}
 use lib.Dec.{ltb, leb, eqb}
 use lib.ListN.{length, drop, length-drop}
-use borrow.Author.Tests.{leb-false, ltb-false, eqb-true, eqb-false}
-use Rattle.octets.specs.Choice.{non, pick-case, pick-cases, given, by-test, not-so}
-use Rattle.octets.specs.Reading.{oct, be16, refuse}
+use borrow.Author.Tests.{leb-false, ltb-false, eqb-false}
+use Rattle.octets.specs.Choice.{non, pick-case, pick-cases, given, not-so}
+use Rattle.octets.specs.Reading.{oct, be16}
 use Rattle.npdu.specs.Address.{absent, partAddress, sourceOf, destinationOf, gives, givesSource, givesDestination}
 use Rattle.npdu.specs.Layout.{version, zeros, cut}
-use Rattle.npdu.specs.Reading.{messageBit, destBit, sourceBit, sixthBit, fourthBit, noPart, addressOf, partLen, partNet, partOf, partIf, tailAt, refusedBy, joined, afterTail, afterSource, afterDest, afterVersion, readNpdu}
+use Rattle.npdu.specs.Reading.{messageBit, destBit, sourceBit, sixthBit, fourthBit, noPart, addressOf, partLen, partNet, partOf, partIf, tailAt, joined, afterTail, afterSource, afterDest, afterVersion, readNpdu}
 use Rattle.npdu.specs.declared.Reading.{Reading}
 use Rattle.npdu.specs.declared.part.Part.{Part}
 use Rattle.npdu.specs.declared.tail.Tail.{Tail}
 use Rattle.npdu.proofs.AddressLaws.{part-gives}
 use Rattle.npdu.proofs.Parts.{take-cut, length-cut}
+use Rattle.npdu.proofs.Refusing.{Read, refused-not, past}
 use Rattle.collector.specs.Heard.{Route, routeOf}
 
 -- both addresses of a route are given, and in seven octets each
@@ -76,17 +77,11 @@ module _ (s : List ℕ) (at low top : ℕ) where
 
 -- ---- the header
 module _ (s : List ℕ) where
+  abbrev Routed : Reading → Type 0
+  Routed r = GivenRoute (routeOf (r .head))
+
   abbrev Sound : Reading → Type 0
-  Sound r = r .refused ≡ 0 → GivenRoute (routeOf (r .head))
-
-  refused-not : (n : ℕ) → 1 ≤ n → Sound (refusedBy n)
-  unfolding refusedBy
-  refused-not n h e = absurd (omega arith)
-
-  -- a part that was refused refuses the header
-  past : (f : ℕ) (r : Reading) → (f ≡ 0 → Sound r) → Sound (refuse (non (eqb f 0)) (refusedBy f) r)
-  unfolding refusedBy
-  past f r g = by-test (eqb f 0) (λ e. rw e (g (eqb-true f 0 e))) (λ e. rw e (λ z. absurd (eqb-false f 0 e z)))
+  Sound = Read Routed
 
   joined-sound : (c at : ℕ) (d q : Part) (t : Tail) → Given s 2 0 65535 (destBit c) d → Given s at 1 65534 (sourceBit c) q → Sound (joined c d q t)
   unfolding joined sourceOf destinationOf givesSource givesDestination
@@ -95,22 +90,22 @@ module _ (s : List ℕ) where
   dest-sound : (c : ℕ) (d : Part) → Fine s 2 0 65535 (destBit c) d → Sound (afterDest s c d)
   unfolding afterDest afterSource afterTail
   dest-sound c d f =
-      past (d .refused) _ (λ z.
+      past Routed (d .refused) _ (λ z.
       let q = partIf s (d .next) (sourceBit c) 1 65534 in
-      past (q .refused) _ (λ y.
+      past Routed (q .refused) _ (λ y.
       let t = tailAt s (q .next) (destBit c) (messageBit c) in
-      past (t .refused) _ (λ _. joined-sound c (d .next) d q t (f z) (if-fine s (d .next) 1 65534 (sourceBit c) y))))
+      past Routed (t .refused) _ (λ _. joined-sound c (d .next) d q t (f z) (if-fine s (d .next) 1 65534 (sourceBit c) y))))
 
   version-sound : (c : ℕ) → Sound (afterVersion s c)
   unfolding afterVersion
   version-sound c =
-      pick-case Sound (sixthBit c) (refused-not 12 (omega arith))
-      (pick-case Sound (fourthBit c) (refused-not 12 (omega arith))
+      pick-case Sound (sixthBit c) (refused-not Routed 12 (omega arith))
+      (pick-case Sound (fourthBit c) (refused-not Routed 12 (omega arith))
       (dest-sound c (partIf s 2 (destBit c) 0 65535) (if-fine s 2 0 65535 (destBit c))))
 
   pub read-given : Sound (readNpdu s)
   unfolding readNpdu
   read-given =
-      pick-case Sound (leb (length s) 0) (refused-not 10 (omega arith))
-      (pick-case Sound (non (eqb (oct s 0) version)) (refused-not 11 (omega arith))
-      (pick-case Sound (leb (length s) 1) (refused-not 10 (omega arith)) (version-sound (oct s 1))))
+      pick-case Sound (leb (length s) 0) (refused-not Routed 10 (omega arith))
+      (pick-case Sound (non (eqb (oct s 0) version)) (refused-not Routed 11 (omega arith))
+      (pick-case Sound (leb (length s) 1) (refused-not Routed 10 (omega arith)) (version-sound (oct s 1))))

@@ -28,6 +28,10 @@ pub record Judged (state report area : List ℕ) : Type 0 where
 abbrev pub headOf : List ℕ → List ℕ
 headOf o = linkOf (linkPart o) .head
 
+-- and its data
+abbrev pub dataOf : List ℕ → List ℕ
+dataOf o = take (lengthOf (headOf o)) (storePart o)
+
 -- head and data of a frame fit there, beside slots that 59 passes
 pub record Framed (o report area : List ℕ) : Type 0 where
   pub long : length o ≡ stateSize
@@ -38,13 +42,10 @@ pub record Framed (o report area : List ℕ) : Type 0 where
 pub record FrameActs (o area o′ report′ area′ : List ℕ) : Type 0 where
   pub slots : Slots
   pub acted : (let w = heardOf (editionOf (editionAt o)) (headOf o) in
-      Acted (acting w (contentOf w (take (lengthOf (headOf o)) (storePart o))) (view (stateAt o .slots)) area) slots report′ area′)
+      Acted (acting w (contentOf w (dataOf o)) (view (stateAt o .slots)) area) slots report′ area′)
   pub after : ((slots ≡ stateAt o .slots) × (o′ ≡ o)) ⊎ ((r : ℕ) × LaysSlots slots o r o′)
 
 -- ---- the segment that such a frame carries: t is what hearing it told, and its APDU is in the data that stand there
-abbrev pub dataOf : List ℕ → List ℕ
-dataOf o = take (lengthOf (headOf o)) (storePart o)
-
 pub record Heeded (o report area : List ℕ) (t : Told) : Type 0 where
   pub framed : Framed o report area
   pub inside : t .at ≤ lengthOf (headOf o)

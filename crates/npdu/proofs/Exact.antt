@@ -7,20 +7,21 @@ use mathlib.Core.Path.{_≡_, refl, sym, ap, _∙_}
 use lib.Dec.{leb, eqb}
 use lib.ListN.{length, getD, drop, length-append, take-append-drop}
 use lib.Seq.{drop-at}
-use borrow.Author.Tests.{lt-leb, leb-false, eqb-true, eqb-false}
-use Rattle.octets.specs.Choice.{non, pick-cases, by-test}
+use borrow.Author.Tests.{lt-leb, leb-false, eqb-true}
+use Rattle.octets.specs.Choice.{pick-cases, by-test}
 use Rattle.octets.specs.Exact.{Exactly}
 use Rattle.octets.specs.Has.{Has, has-append, has-left, has-right, has-cut, has-bound, all-has}
-use Rattle.octets.specs.Reading.{oct, refuse, Octets}
+use Rattle.octets.specs.Reading.{oct, Octets}
 use Rattle.npdu.specs.Exact.{Followed, Reads, ValidFirst, encodeAll, accepted}
 use Rattle.npdu.specs.Layout.{version, controlOf, partOctets, hopOctets, messageOctets, partsOctets, tailOctets, encode, shown}
 use Rattle.npdu.specs.Valid.{Ruled, Kept}
-use Rattle.npdu.specs.Reading.{messageBit, destBit, sourceBit, sixthBit, fourthBit, partIf, tailAt, ended, refusedBy, joined, afterTail, afterSource, afterDest, afterVersion, readNpdu}
+use Rattle.npdu.specs.Reading.{messageBit, destBit, sourceBit, sixthBit, fourthBit, partIf, tailAt, ended, joined, afterTail, afterSource, afterDest, afterVersion, readNpdu}
 use Rattle.npdu.specs.declared.Npdu.{Npdu}
 use Rattle.npdu.specs.declared.Reading.{Reading}
 use Rattle.npdu.specs.declared.part.Part.{Part}
 use Rattle.npdu.specs.declared.tail.Tail.{Tail}
 use Rattle.npdu.proofs.Control.{control-bits, control-back}
+use Rattle.npdu.proofs.Refusing.{Read, refused-not, past}
 use Rattle.npdu.proofs.Parts.{shownPart, part-if-reads, PartStands, part-if-sound}
 use Rattle.npdu.proofs.Tails.{shownTail, tail-reads, tail-sound}
 
@@ -60,16 +61,7 @@ pub record Stands (o : List ℕ) (r : Reading) : Type 0 where
 
 module _ (o : List ℕ) (os : Octets o) where
   abbrev Sound : Reading → Type 0
-  Sound r = r .refused ≡ 0 → Stands o r
-
-  refused-not : (n : ℕ) → 1 ≤ n → Sound (refusedBy n)
-  unfolding refusedBy
-  refused-not n h e = absurd (omega arith)
-
-  -- a part that was refused refuses the header
-  past : (f : ℕ) (r : Reading) → (f ≡ 0 → Sound r) → Sound (refuse (non (eqb f 0)) (refusedBy f) r)
-  unfolding refusedBy
-  past f r g = by-test (eqb f 0) (λ e. rw e (g (eqb-true f 0 e))) (λ e. rw e (λ z. absurd (eqb-false f 0 e z)))
+  Sound = Read (Stands o)
 
   module _ (c : ℕ) (b : 1 < length o) (v : getD o 0 0 ≡ version) (w : getD o 1 0 ≡ c) (six : sixthBit c ≡ false) (four : fourthBit c ≡ false) where
     joined-sound : (d q : Part) (t : Tail) → PartStands o 2 (destBit c) 0 65535 d → PartStands o (d .next) (sourceBit c) 1 65534 q
@@ -91,16 +83,16 @@ module _ (o : List ℕ) (os : Octets o) where
     source-sound : (d q : Part) → PartStands o 2 (destBit c) 0 65535 d → (q .refused ≡ 0 → PartStands o (d .next) (sourceBit c) 1 65534 q) → Sound (afterSource o c d q)
     unfolding afterSource afterTail
     source-sound d q dw f =
-        past (q .refused) _ (λ z.
+        past (Stands o) (q .refused) _ (λ z.
         let qw = f z in
         let a : q .next ≤ length o = omega (arith, qw .ends, has-bound o (d .next) (partOctets (sourceBit c) (q .net) (q .len) (q .adr)) (qw .stands)) in
         let t = tailAt o (q .next) (destBit c) (messageBit c) in
-        past (t .refused) _ (λ y _. joined-sound d q t dw qw (tail-sound o os (destBit c) (messageBit c) (q .next) a y)))
+        past (Stands o) (t .refused) _ (λ y _. joined-sound d q t dw qw (tail-sound o os (destBit c) (messageBit c) (q .next) a y)))
 
     dest-sound : (d : Part) → (d .refused ≡ 0 → PartStands o 2 (destBit c) 0 65535 d) → Sound (afterDest o c d)
     unfolding afterDest
     dest-sound d f =
-        past (d .refused) _ (λ z.
+        past (Stands o) (d .refused) _ (λ z.
         let dw = f z in
         let a : d .next ≤ length o = omega (arith, dw .ends, has-bound o 2 (partOctets (destBit c) (d .net) (d .len) (d .adr)) (dw .stands)) in
         source-sound d (partIf o (d .next) (sourceBit c) 1 65534) dw (part-if-sound o os (d .next) 1 65534 (sourceBit c) a))
@@ -108,17 +100,17 @@ module _ (o : List ℕ) (os : Octets o) where
   version-sound : (c : ℕ) → 1 < length o → getD o 0 0 ≡ version → getD o 1 0 ≡ c → Sound (afterVersion o c)
   unfolding afterVersion
   version-sound c b v w =
-      pick-cases Sound (sixthBit c) (λ _. refused-not 12 (omega arith)) (λ six.
-      pick-cases Sound (fourthBit c) (λ _. refused-not 12 (omega arith)) (λ four.
+      pick-cases Sound (sixthBit c) (λ _. refused-not (Stands o) 12 (omega arith)) (λ six.
+      pick-cases Sound (fourthBit c) (λ _. refused-not (Stands o) 12 (omega arith)) (λ four.
       dest-sound c b v w six four (partIf o 2 (destBit c) 0 65535) (part-if-sound o os 2 0 65535 (destBit c) (omega arith))))
 
   pub head-sound : Sound (readNpdu o)
   unfolding readNpdu
   head-sound =
-      pick-cases Sound (leb (length o) 0) (λ _. refused-not 10 (omega arith)) (λ _.
+      pick-cases Sound (leb (length o) 0) (λ _. refused-not (Stands o) 10 (omega arith)) (λ _.
       by-test (eqb (oct o 0) version)
-      (λ v. rw v (pick-cases Sound (leb (length o) 1) (λ _. refused-not 10 (omega arith)) (λ e. version-sound (oct o 1) (leb-false (length o) 1 e) (eqb-true (oct o 0) version v) refl)))
-      (λ v. rw v (refused-not 11 (omega arith))))
+      (λ v. rw v (pick-cases Sound (leb (length o) 1) (λ _. refused-not (Stands o) 10 (omega arith)) (λ e. version-sound (oct o 1) (leb-false (length o) 1 e) (eqb-true (oct o 0) version v) refl)))
+      (λ v. rw v (refused-not (Stands o) 11 (omega arith))))
 
 -- ---- accepted exactly when
 

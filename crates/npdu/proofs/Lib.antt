@@ -4,6 +4,7 @@ pub mod Sizes
 pub mod Parts
 pub mod Tails
 pub mod Control
+pub mod Refusing
 pub mod Exact
 pub mod Judged
 pub mod Trips
