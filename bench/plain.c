@@ -331,23 +331,30 @@ static struct plain_slot *free_slot(struct plain *p)
     return NULL;
 }
 
-/* A segment: its refusal number, or 0 and the report is made. */
+/* Whether a segment starts its key's message, or starts it anew: number 0 does, but where the slot that the key has open awaits 0. */
+static int starts(const struct plain_slot *s, const struct apdu *a)
+{
+    return a->number == 0 && (!s || s->next != 0);
+}
+
+/* Whether a segment goes on where its key's slot stands: 0, or its refusal number; 54 frees the slot. */
+static int goes_on(struct plain_slot *s, const struct apdu *a, size_t n)
+{
+    if (!s) return 51;
+    if (a->number != s->next) return 52;
+    if (a->choice != s->choice) return 53;
+    if (s->held + n <= ROOM) return 0;
+    *s = (struct plain_slot){0};
+    return 54;
+}
+
+/* A segment: its refusal number, or 0 and the report is made. The number after 255 is 0. */
 static int segment(struct plain *p, const struct route *v, unsigned first, const struct apdu *a, const uint8_t *octets, size_t n, uint8_t *r, uint8_t *area)
 {
-    static const struct plain_slot nothing;
     struct plain_slot *s = slot_of(p, v, a);
-    if (a->number != 0) {
-        if (!s) return 51;
-        if (a->number != s->next) return 52;
-        if (a->choice != s->choice) return 53;
-        if (a->number == 255 && a->mor) {
-            *s = nothing;
-            return 55;
-        }
-        if (ROOM < s->held + n) {
-            *s = nothing;
-            return 54;
-        }
+    if (!starts(s, a)) {
+        int refused = goes_on(s, a, n);
+        if (refused) return refused;
     } else {
         if (!s) s = free_slot(p);
         if (!s) return 50;
@@ -363,7 +370,7 @@ static int segment(struct plain *p, const struct route *v, unsigned first, const
         return 0;
     }
     uint32_t total = s->held;
-    *s = nothing;
+    *s = (struct plain_slot){0};
     int items = plain_items(from, total);
     if (items < 0) return -items;
     message(p, r, 5, first, a, i, total);

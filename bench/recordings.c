@@ -7,10 +7,12 @@
      full          frames with 501 data octets
      segmented     logs on four keys at once, each of five segments
      routed        eight devices behind two routers, four logs at once; the invoke IDs of all are one
+     long [N]      one message of N segments of 45 octets, 300 if N is left out; a silence stands before its last segment
      damaged [N]   N-th random mixture of good, damaged, refused and segmented traffic, silences and forget orders
      requests [N]  the same with more confirmed requests, most of them with a code of segments accepted (bits 6 to 4 of their second octet)
      crossed [N]   the same as damaged, but three conversations at a time have one source, type and invoke ID, and mostly a network header that
                    tells them apart: without addresses, from a device, from one to one
+     wrapped [N]   the same as crossed, behind so many segments of three conversations that their next numbers are 255 or 0
      flat N        one segmented message of N items side by side; a silence stands before its last segment
      nested N      the same, sixteen deep
      message N     one segmented message of N octets; the same */
@@ -222,13 +224,13 @@ static void routed(void)
             }
 }
 
-/* One message in segments of 460 octets, with a silence before the last. */
-static void one_message(void)
+/* One message in segments of so many octets, with a silence before the last. The number after 255 is 0. */
+static void one_message(int most)
 {
     uint8_t data[501];
-    int last = text_length ? (text_length - 1) / 460 : 0;
+    int last = text_length ? (text_length - 1) / most : 0;
     for (int number = 0; number <= last; number++) {
-        int from = number * 460, n = number < last ? 460 : text_length - from;
+        int from = number * most, n = number < last ? most : text_length - from;
         int size = segment(data, 1, number, number < last, 14, text + from, n);
         if (number == last) silence();
         send(6, 1, 3, data, size);
@@ -238,7 +240,7 @@ static void one_message(void)
 static void flat(int items)
 {
     for (int i = 0; i < items; i++) item((const uint8_t[]){0x21, (uint8_t)i}, 2);
-    one_message();
+    one_message(460);
 }
 
 /* Towers of sixteen openings, the items of the rest inside them, sixteen closings. */
@@ -252,15 +254,15 @@ static void nested(int items)
         items -= 32 + inside;
     }
     for (int i = 0; i < items; i++) item((const uint8_t[]){0x21, (uint8_t)i}, 2);
-    one_message();
+    one_message(460);
 }
 
 /* Texts of 17 characters, and nulls to fill up: 16,384 octets are 823 items. */
-static void message(int octets)
+static void message(int octets, int most)
 {
     while (text_length + 20 <= octets) item((const uint8_t *)"\x75\x12\0Chamber 12 closed", 20);
     while (text_length < octets) item((const uint8_t[]){0x00}, 1);
-    one_message();
+    one_message(most);
 }
 
 /* ---- damaged traffic */
@@ -395,6 +397,23 @@ static int some_segment(uint8_t *s, int key)
     return n + length;
 }
 
+/* The complex acks among crossed conversations, run up to number 255 or 0, with nothing held, a full slot or something between. At 0 some try another choice. */
+static int wrapped;
+static void run_up(void)
+{
+    uint8_t data[501];
+    for (int i = 0; i < 4; i++) item((const uint8_t *)"\x75\x0E\0Chamber 12 ok", 16);
+    for (int key = 3; key < 6; key++) {
+        int segments = 255 + (int)below(3), length = 16 * (int)below(5);
+        for (int number = 0; number < segments; number++) {
+            int n = own_network(data, key);
+            n += ack(data + n, 0, number, 1, number < 256 ? 12 : 15, text, length);
+            send(6, 1, 3, data, n);
+        }
+        next_number[key] = segments == 255 ? 255 : 0;
+    }
+}
+
 /* A frame that is made good and then, now and then, harmed. */
 static void some_frame(void)
 {
@@ -431,6 +450,7 @@ static void some_frame(void)
 static void damaged(int which)
 {
     seed = (uint64_t)which * 977 + 5;
+    if (wrapped) run_up();
     for (int i = 0; i < 120; i++) {
         some_frame();
         switch (below(12)) {
@@ -454,14 +474,16 @@ int main(int argc, char **argv)
     else if (!strcmp(name, "full")) full();
     else if (!strcmp(name, "segmented")) segmented();
     else if (!strcmp(name, "routed")) routed();
+    else if (!strcmp(name, "long") && n <= 364) message(45 * (n ? n : 300), 45);
     else if (!strcmp(name, "damaged")) damaged(n);
     else if (!strcmp(name, "requests")) coded = 1, damaged(n);
     else if (!strcmp(name, "crossed")) crossed = 1, damaged(n);
+    else if (!strcmp(name, "wrapped")) crossed = wrapped = 1, damaged(n);
     else if (!strcmp(name, "flat") && n <= 4096) flat(n);
     else if (!strcmp(name, "nested") && n <= 4096) nested(n);
-    else if (!strcmp(name, "message") && n <= 16384) message(n);
+    else if (!strcmp(name, "message") && n <= 16384) message(n, 460);
     else {
-        fputs("usage: recordings [octets | raw] idle | readings | full | segmented | routed | damaged [N] | requests [N] | crossed [N] | flat N | nested N | message N\n", stderr);
+        fputs("usage: recordings [octets | raw] idle | readings | full | segmented | routed | long [N] | damaged [N] | requests [N] | crossed [N] | wrapped [N] | flat N | nested N | message N\n", stderr);
         return 2;
     }
     return 0;

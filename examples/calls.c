@@ -126,6 +126,19 @@ static void routed(void)
     tell("two devices behind one router");
 }
 
+/* A slot that awaits number 0, as it does behind 255: number 1 is 52, number 0 with another choice 53, and number 0 goes on behind what is held. */
+static void behind_255(void)
+{
+    want(hb_fresh(state, HB_STATE, 0) == 0);
+    feed(framed("06 21 43 00 09", "01 00 3C 57 00 04 0E 62 A1"), "04 00 06 21 43 3C 57 00 00 00 00 02 0E 00 00 00");
+    state[511 + 5] = 0; /* the first slot's next number: 1 becomes 0 */
+    feed(framed("06 21 43 00 08", "01 00 38 57 01 04 0E A2"), "06 34 06 21 43 00 00 00 00 00 00 00 00 00 00 00");
+    feed(framed("06 21 43 00 08", "01 00 38 57 00 04 0F A2"), "06 35 06 21 43 00 00 00 00 00 00 00 00 00 00 00");
+    feed(framed("06 21 43 00 08", "01 00 38 57 00 04 0E A2"), "05 00 06 21 43 38 57 00 00 00 00 03 0E 00 00 00");
+    want_octets(area, 3, of("62 A1 A2"));
+    tell("a segment 0 behind number 255");
+}
+
 /* A ReadProperty request that accepts 2 segments, on a trunk of an edition, also behind a silence and a forget order: they leave the edition as it is. */
 static void request(uint8_t later, const char *reports)
 {
@@ -424,6 +437,7 @@ int main(void)
 {
     trunk();
     routed();
+    behind_255();
     editions();
     recorded();
     sums();

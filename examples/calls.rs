@@ -72,6 +72,20 @@ fn recorded() -> bool {
         && replay(&mut [0xFF; HB_STATE], &mut area, &mut report, &tape) == (HB_NO_STATE, 0, 0)
 }
 
+// A slot that awaits number 0, as it does behind 255: a segment 0 goes on there, its octet behind the two that are held.
+fn behind_255() -> bool {
+    let (mut state, mut area, mut report) = ([0u8; HB_STATE], vec![0u8; HB_AREA], [0u8; HB_REPORT]);
+    let frame = of("55 FF 06 01 03 00 08 30 01 00 38 01 00 01 0E 00 CC 2F");
+    let tape: Vec<u8> = frame.iter().flat_map(|x| [0, *x, 0, 0]).collect();
+    let fresh = unsafe { hb_fresh(state.as_mut_ptr(), state.len(), 0) };
+    state[511..520].copy_from_slice(&of("01 03 01 03 01 00 0E 00 02"));
+    area[..2].copy_from_slice(&of("11 10"));
+    fresh == 0
+        && replay(&mut state, &mut area, &mut report, &tape) == (0, 18, 1)
+        && report[..] == of("05 00 06 01 03 38 01 00 00 00 00 03 0E 00 00 00")[..]
+        && area[..3] == of("11 10 00")[..]
+}
+
 fn sums() -> bool {
     let (head, data) = (of("00 10 05 00 00 8C"), of("01 22 30 10 BD"));
     unsafe {
@@ -147,6 +161,7 @@ fn main() {
     let npdu = "00 01 00 00 00 FF FF 00 00 00 00 00 00 00 00 00 00 00 00 00 00 00 00 00 00 FF 00 00 00";
     let good = trunk()
         && recorded()
+        && behind_255()
         && sums()
         && header(hb_npdu_read, hb_npdu_write, "01 20 FF FF 00 FF 10 08", 6, npdu)
         && header(apdu_read, apdu_write, "02 03 00 0C 0C 00 00 00 01 19 55", 4, "00 00 00 01 00 00 03 00 00 00 0C 00 00")

@@ -27,7 +27,7 @@
 #include <stddef.h>
 #include <stdint.h>
 
-#define HB_VERSION "1.4"
+#define HB_VERSION "1.5"
 #define HB_KIT "rattle-kit-5" /* the release that this version is proved and compiled with */
 
 #ifdef __cplusplus
@@ -100,13 +100,15 @@ enum {
     HB_SERVICE_CHOICE = 43, /* choice not built for that PDU */
 
     /* rebuilding, in octet 1 of a report of kind 6. A message's key has eight parts: MS/TP source and destination, PDU type, invoke ID, and the network header's
-       SNET, SADR, DNET and DADR, each there or not; an address is its octets with its length. Hop count, priority and frame type are not in it. */
+       SNET, SADR, DNET and DADR, each there or not; an address is its octets with its length. Hop count, priority and frame type are not in it.
+       Behind number 255 comes 0: a segment of number 0 continues an open key whose next number is 0, otherwise it starts or restarts. A new
+       message that begins just there is judged as the old one's next segment and, where that is taken, joined to it: nothing in the segment
+       tells them apart. */
     HB_NO_SLOT = 50,   /* number 0, key not open, no slot free */
     HB_NOT_BEGUN = 51, /* number not 0 and key not open */
-    HB_NOT_NEXT = 52,  /* key open: not the next number */
-    HB_CHOICE = 53,    /* key open: choice differs */
+    HB_NOT_NEXT = 52,  /* key open: number not 0 and not the next */
+    HB_CHOICE = 53,    /* key open, not starting: choice differs */
     HB_TOO_LONG = 54,  /* would pass 16,384 octets; frees the slot */
-    HB_TOO_MANY = 55,  /* number 255 with MOR; frees the slot */
     HB_NOT_OPEN = 56,  /* forgetting a slot that is not open, or above 3 */
 
     /* what is lent */

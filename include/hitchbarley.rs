@@ -7,7 +7,7 @@
 //!     rustc -L target/staticlib -l static=hitchbarley
 #![allow(dead_code)]
 
-pub const HB_VERSION: &str = "1.4";
+pub const HB_VERSION: &str = "1.5";
 /// the release that this version is proved and compiled with
 pub const HB_KIT: &str = "rattle-kit-5";
 
@@ -100,19 +100,19 @@ pub const HB_SERVICE_OVER: u8 = 42;
 /// choice not built for that PDU
 pub const HB_SERVICE_CHOICE: u8 = 43;
 
-// rebuilding, in octet 1 of a report of kind 6; a key has eight parts: MS/TP source and destination, PDU type, invoke ID, SNET, SADR, DNET, DADR
+// rebuilding, in octet 1 of a report of kind 6; a key has eight parts: MS/TP source and destination, PDU type, invoke ID, SNET, SADR, DNET, DADR;
+// number 0 continues an open key whose next number is 0 (behind 255), otherwise it starts or restarts; a new message that begins
+// just there is judged as the old one's next segment
 /// number 0, key not open, no slot free
 pub const HB_NO_SLOT: u8 = 50;
 /// number not 0 and key not open
 pub const HB_NOT_BEGUN: u8 = 51;
-/// key open: not the next number
+/// key open: number not 0 and not the next
 pub const HB_NOT_NEXT: u8 = 52;
-/// key open: choice differs
+/// key open, not starting: choice differs
 pub const HB_CHOICE: u8 = 53;
 /// would pass 16,384 octets; frees the slot
 pub const HB_TOO_LONG: u8 = 54;
-/// number 255 with MOR; frees the slot
-pub const HB_TOO_MANY: u8 = 55;
 /// forgetting a slot that is not open, or above 3
 pub const HB_NOT_OPEN: u8 = 56;
 

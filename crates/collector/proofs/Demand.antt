@@ -5,7 +5,6 @@ use mathlib.Core.Bool.{true, false}
 use mathlib.Core.List.{List, [], _∷_, _++_}
 use mathlib.Core.Logic.{_⊎_}
 use mathlib.Core.Option.{some}
-use lib.Dec.{eqb}
 use lib.ListN.{length}
 use borrow.Author.Tests.{eq-eqb}
 use Rattle.runs.specs.Run.{Event, Run, wire, ended, walk}
@@ -55,7 +54,7 @@ module _ (c : Collector) (area : List ℕ) (P : Passes c) (z : length area ≡ 6
   pub some-way : (run : Run) → (e : End) × Called (length (heldOf (c .receiver))) c area run e
   some-way run = let w = boxed-way run in (inEdition (c .edition) (w .0), called-by (w .1))
 
-  -- "Each message begun and completed in the run is its key's accepted segments since its latest segment 0, joined in number order": t is the
+  -- "Each message begun and completed in the run is its key's accepted segments since its latest starting segment 0, joined in order of acceptance": t is the
   -- reading of the whole trunk, front the run up to the place where the last segment ends.
   pub messages : (all front : Run) (e : Event) (o : Out) (g : Messages.Segment Key)
       → (let t = readFrom (c .receiver) (wire all) in
@@ -69,11 +68,11 @@ module _ (c : Collector) (area : List ℕ) (P : Passes c) (z : length area ≡ 6
 
   -- a repeated or late segment changes nothing: 52
   pub late : (w : Heard) (v : Route) (m : Parts) (a : List ℕ) (i : ℕ) → m .segment .seg ≡ true → slotOf keys (segmentFrom w v m a .key) (slotsOf c) ≡ some i
-      → eqb (m .segment .number) 0 ≡ false → eqb (m .segment .number) (slotAt keys (slotsOf c) i .next) ≡ false
+      → (m .segment .number ≡ 0 → ⊥) → (m .segment .number ≡ slotAt keys (slotsOf c) i .next → ⊥)
       → acting w (message v m a) (slotsOf c) area ≡ (reportOctets (refusal (w .frame) 52), slotsOf c, area)
   late w v m a i s k n d =
       acts-segment w v m a (slotsOf c) area s
-      ∙ rw (repeated keys (segmentFrom w v m a) (boxed (slotsOf c) area) i k n d)
+      ∙ rw (repeated keys (segmentFrom w v m a) (boxed (slotsOf c) area) i k (slotAt keys (slotsOf c) i) refl n d)
 
   -- two keys never share octets: what two open slots hold lies apart
   pub apart : (i j : ℕ) → i < 4 → j < 4 → (slotAt keys (slotsOf c) i .key ≡ slotAt keys (slotsOf c) j .key → ⊥)

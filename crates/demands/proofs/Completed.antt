@@ -3,14 +3,14 @@
 use Prim.Native.Nat.{ℕ, _+_, _-_, _*_, _/_, _≤_, _<_}
 use native.Mathlib.Omega.{arith}
 use mathlib.Core.Path.{_≡_, refl, sym, ap, subst, _∙_}
-use mathlib.Core.Logic.{_⊎_, inl, inr}
+use mathlib.Core.Logic.{_↔_, _⊎_, inl, inr}
 use mathlib.Core.Bool.{true, false}
-use mathlib.Core.List.{List, [], _∷_, _++_}
+use mathlib.Core.List.{List, [], _∷_, _++_, append-nil}
 use mathlib.Core.Option.{Option, none, some}
 use lib.Dec.{eqb, ltb}
 use lib.ListN.{length, length-set, drop}
 use borrow.Author.Tests.{eq-eqb, ne-eqb, eqb-true, le-leb, lt-leb}
-use Rattle.octets.specs.Choice.{both, non, both-left, pick-case, pick-cases, given-cases, by-test, impossible}
+use Rattle.octets.specs.Choice.{both-left, given-cases, by-test, impossible}
 use Rattle.octets.specs.Reading.{oct}
 use Rattle.octets.specs.Numbers.{valueAt, digits-four}
 use Rattle.runs.specs.Run.{Event, Run, wire, Trace, ended, last, Ends, ends, acted, walk}
@@ -29,16 +29,25 @@ use Rattle.apdu.specs.declared.Answer.the-variants.{Good, Refused}
 use Rattle.items.specs.Reading as Items
 use Rattle.items.specs.Reading.{itemsOf, counted}
 use Rattle.items.specs.Reading.Out.{good, bad}
-use Rattle.messages.specs.Slots.{Segment, Slot, Box, boxed, room, part, slotAt, lowest, orElse, isSome, isFree, slotOf}
+use Rattle.messages.specs.Slots.{Segment, Slot, Box, boxed, room, part}
 use Rattle.messages.specs.Rows as Rows
-use Rattle.messages.specs.Rows.{Answer, startsAt, rebuild}
+use Rattle.messages.specs.Rows.{Answer, rebuild}
 use Rattle.messages.specs.Rows.Answer.{refused, taken, completed}
-use Rattle.messages.specs.History.{Deed, Log, Past, past, accepted, begun, since, joined, numbers, below, Rebuilt, standing, after, runs}
+use Rattle.messages.specs.History.{Deed, Log, Past, past, starting, begun, since, joined, numbers, sequence, Rebuilt, standing, after, runs, fromStart}
 use Rattle.messages.specs.History.Deed.{forgetting}
 use Rattle.messages.specs.History.Entry.{said}
+use Rattle.messages.specs.Sound.{Good as Fair}
+use Rattle.messages.specs.Table.{Starts}
+use Rattle.messages.proofs.Sound.{good-of}
+use Rattle.messages.proofs.Table.{starts-exactly, mor-taken, mor-completed}
+use Rattle.messages.proofs.Recall.{starting-by, starting-starts}
+use Rattle.messages.proofs.Begun.{begun-exactly}
+use Rattle.messages.proofs.History.{sure}
 use Rattle.rebuild.specs.View.{keys}
 use Rattle.rebuild.specs.declared.Key.{Key}
+use Rattle.rebuild.proofs.Page.{key-laws}
 use Rattle.recordings.specs.Frames.{rules, actOn, deedOf, deedsAt, deeds, history, Completes}
+use Rattle.recordings.proofs.Deeds.{boxes}
 use Rattle.rebuild.specs.Calls.{stepOf}
 use Rattle.reports.specs.Layout.{reportOctets}
 use Rattle.reports.specs.Kinds.{unsegmented, segmentTaken, complete}
@@ -56,10 +65,12 @@ use Rattle.collector.proofs.Demand as Collecting
 use Rattle.hitchbarley.proofs.Demand.{octets-demand3}
 use Rattle.hitchbarley.proofs.Offerable as Offerable
 use Rattle.demands.specs.Words.{Between, SegmentChanges}
-use Rattle.demands.specs.Completed.{kindIn, numberIn, slotIn, lengthIn, Names, tagNumber, answerIn, reportAt, segmentEnding, heardEntry, heardLog, heardFrom}
-use Rattle.demands.specs.Completed.{Whole, WholeButTags, OfSegment, AsReported, CompletedAsReported, CompletedOverOctets, CanBeLinked}
+use Rattle.demands.specs.Completed.{kindIn, numberIn, slotIn, lengthIn, Names, tagNumber, answerIn, reportAt, segmentEnding, heardEntry, heardKey, heardForget, heardLog, heardFrom}
+use Rattle.demands.specs.Completed.{Whole, WholeButTags, OfSegment, AsReported, CompletedAsReported, CompletedOverOctets, BegunExactly, StartsHeard, StartsRecorded, CanBeLinked}
 use Rattle.demands.proofs.Numbers.{count-numbers}
 use Rattle.demands.proofs.Segments.{segment-does}
+use Rattle.demands.proofs.HeardKeys.{Alike, Same, same-said, Tied, tied-start, tied-said, tied-forget}
+use Rattle.demands.proofs.HeardKeys.Alike.{both-refused, both-taken, both-completed}
 use Rattle.demands.proofs.Three.{read-by-position, can-be-offered, reached-passes}
 
 -- ---- an APDU in a frame's data: the high four bits of its first octet are its type
@@ -92,8 +103,8 @@ content-in w payload u m o e =
 
 -- ---- the report r of a segment of key k, by its answer w and the area after it
 data Told (k : Key) (w : Answer) (area r : List ℕ) : Type 0 where
-  not-taken : (n : ℕ) → w ≡ refused n → Between 50 55 n → kindIn r ≡ 6 → numberIn r ≡ n → Told k w area r
-  more : (i n : ℕ) → w ≡ taken i n → kindIn r ≡ 4 → Names r k → Told k w area r
+  not-taken : (n : ℕ) → w ≡ refused n → Between 50 54 n → kindIn r ≡ 6 → numberIn r ≡ n → Told k w area r
+  more : (i n : ℕ) → w ≡ taken i n → kindIn r ≡ 4 → slotIn r ≡ i → Names r k → Told k w area r
   fine : (i n : ℕ) → w ≡ completed i n → kindIn r ≡ 5 → slotIn r ≡ i → lengthIn r ≡ n → Names r k
       → ((x : ℕ) → itemsOf (part (room * i) n area) ≡ bad x → ⊥) → Told k w area r
   faulty : (i n : ℕ) → w ≡ completed i n → kindIn r ≡ 6 → Between 30 39 (numberIn r)
@@ -125,11 +136,11 @@ module _ (w : Heard) (v : Route) (m : Parts) (a : List ℕ) (ok : Typed m) (g : 
   unfolding reportOctets
   by-answer (refused n) slots area h = not-taken n refl (row (h .1)) refl refl
     where
-      row : {A B : Type 0} → (Between 50 53 n × A) ⊎ (Between 54 55 n × B) → Between 50 55 n
+      row : {A B : Type 0} → (Between 50 53 n × A) ⊎ ((n ≡ 54) × B) → Between 50 54 n
       row (inl x) = (x .0 .0, omega (arith, x .0 .1))
-      row (inr x) = (omega (arith, x .0 .0), x .0 .1)
+      row (inr x) = (omega (arith, x .0), omega (arith, x .0))
   by-answer (taken i n) slots area h =
-      more i n refl refl (subst (λ (g : Segment Key). Names (reportOctets (segmentTaken (w .frame) (m .apdu) i n)) (g .key)) is (named w v m ok (segmentTaken (w .frame) (m .apdu) i n) refl refl))
+      more i n refl refl refl (subst (λ (g : Segment Key). Names (reportOctets (segmentTaken (w .frame) (m .apdu) i n)) (g .key)) is (named w v m ok (segmentTaken (w .frame) (m .apdu) i n) refl refl))
   by-answer (completed i n) slots area h =
       subst (λ (k : Key). Told k (completed i n) area (reportOctets (stepReport w m (stepOf (completed i n)) area))) (ap (λ (g : Segment Key). g .key) is)
       (told-tags w v m i n area (itemsOf (part (room * i) n area)) refl (h .fits) ok)
@@ -153,12 +164,12 @@ segment-told : (edition : Edition) (o : Out) (g : Segment Key) → segmentAt edi
 segment-told edition (whole head payload) g e b = let w = heardOf edition head in told-by w (contentOf w payload) g e (content-in w payload) b
 segment-told edition (damage n) g e b = impossible (cc)
 
--- accepted or not is what the report says
-accepted-told : (k : Key) (w : Answer) (area r : List ℕ) → Told k w area r → accepted w ≡ accepted (answerIn r)
-accepted-told k w area r (not-taken n e b d q) = rw (e, d, q, le-leb 30 n (omega (arith, b .0)), lt-leb n 39 (omega (arith, b .0)))
-accepted-told k w area r (more i n e d y) = rw (e, d)
-accepted-told k w area r (fine i n e d s l y f) = rw (e, d)
-accepted-told k w area r (faulty i n e d b f) = rw (e, d, le-leb 30 (numberIn r) (b .0), le-leb (numberIn r) 39 (b .1))
+-- the report says what the answer is, but for the slot and the length of a message with bad tags
+alike-told : (k : Key) (w : Answer) (area r : List ℕ) → Told k w area r → Alike w (answerIn r)
+alike-told k w area r (not-taken n e b d q) = rw (e, d, q, le-leb 30 n (omega (arith, b .0)), lt-leb n 39 (omega (arith, b .0))) (both-refused n)
+alike-told k w area r (more i n e d s y) = rw (e, d, s) (both-taken i n (lengthIn r))
+alike-told k w area r (fine i n e d s l y f) = rw (e, d) (both-completed i (slotIn r) n (lengthIn r))
+alike-told k w area r (faulty i n e d b f) = rw (e, d, le-leb 30 (numberIn r) (b .0), le-leb (numberIn r) 39 (b .1)) (both-completed i 0 n 0)
 
 -- a frame that carries no segment takes and completes nothing
 module _ (kind : ℕ) (four-five : Between 4 5 kind) where
@@ -180,70 +191,18 @@ module _ (kind : ℕ) (four-five : Between 4 5 kind) where
   out-kind edition (whole head payload) e = plain-kind (heardOf edition head) (contentOf (heardOf edition head) payload) e
   out-kind edition (damage n) e = omega (arith, four-five .0, e)
 
--- ---- the answer to a segment, by its MOR
-module _ (g : Segment Key) where
-  data ByMor (d : Rows.Done Key) : Type 0 where
-    refuses-it : (n : ℕ) → d .answer ≡ refused n → ByMor d
-    takes-it : g .mor ≡ true → (i n : ℕ) → d .answer ≡ taken i n → ByMor d
-    completes-it : g .mor ≡ false → (i n : ℕ) → d .answer ≡ completed i n → ByMor d
-
-  found-mor : (x : Option ℕ) (n : ℕ) (b : Box Key) → ByMor (Rows.settled keys g x n b)
-  found-mor none n b = refuses-it 50 refl
-  found-mor (some i) n b =
-      let total = n + length (g .octets) in
-      pick-cases ByMor (g .mor) (λ t. takes-it t i total refl) (λ t. completes-it t i total refl)
-
-  fitted-mor : (o : Option ℕ) (n : ℕ) (b : Box Key) → ByMor (Rows.fitted keys g o n b)
-  fitted-mor o n b =
-      pick-case ByMor (Rows.spent (g .number) (g .mor)) (refuses-it 55 refl)
-      (pick-case ByMor (ltb room (n + length (g .octets))) (refuses-it 54 refl) (found-mor (orElse o (lowest (isFree keys) (b .slots))) n b))
-
-  rows-mor : (o : Option ℕ) (t : Slot Key) (b : Box Key) → ByMor (Rows.rows keys g o t b)
-  rows-mor o t b =
-      let anew = Rows.starts keys g o t in
-      let later = both (isSome o) (non anew) in
-      pick-case ByMor (both (non anew) (non (isSome o))) (refuses-it 51 refl)
-      (pick-case ByMor (both later (non (eqb (g .number) (t .next)))) (refuses-it 52 refl)
-      (pick-case ByMor (both later (non (eqb (g .choice) (t .choice)))) (refuses-it 53 refl) (fitted-mor o (Rows.before keys g o t) b)))
-
-  by-mor : (b : Box Key) → ByMor (rebuild keys g b)
-  unfolding rebuild
-  by-mor b = let o = slotOf keys (g .key) (b .slots) in rows-mor o (Rows.recordAt keys (b .slots) o) b
-
-  taken-mor : (d : Rows.Done Key) → ByMor d → (i n : ℕ) → d .answer ≡ taken i n → g .mor ≡ true
-  taken-mor d (refuses-it m e) i n w = impossible (cc)
-  taken-mor d (takes-it t j m e) i n w = t
-  taken-mor d (completes-it t j m e) i n w = impossible (cc)
-
-  completed-mor : (d : Rows.Done Key) → ByMor d → (i n : ℕ) → d .answer ≡ completed i n → g .mor ≡ false
-  completed-mor d (refuses-it m e) i n w = impossible (cc)
-  completed-mor d (takes-it t j m e) i n w = impossible (cc)
-  completed-mor d (completes-it t j m e) i n w = t
-
 -- ---- two histories that say the same of every key
-abbrev Same : Log Key → Log Key → Type 0
-Same a b = (k : Key) → (since keys k a ≡ since keys k b) × (begun keys k a ≡ begun keys k b)
-
-same-said : (g : Segment Key) (w v : Answer) (a b : Log Key) → accepted w ≡ accepted v → Same a b → Same (said g w ∷ a) (said g v ∷ b)
-unfolding startsAt
-same-said g w v a b e h k = (rw (e, h k .0), rw (e, h k .1))
-
 rebuilt-same : {k : Key} {a b : Log Key} {area : List ℕ} {i n : ℕ} → Same a b → Rebuilt keys k a area i n → Rebuilt keys k b area i n
 rebuilt-same {k} {a} {b} h r =
-    let e = h k .0 in
+    let e = h k .since in
     record {
       octets = r .octets ∙ rw e;
       total = r .total ∙ rw e;
-      order = subst (λ (l : List (Segment Key)). numbers l ≡ below (length l)) e (r .order);
+      order = subst (λ (l : List (Segment Key)). numbers l ≡ sequence (length l)) e (r .order);
     }
 
--- what stood open before the run is passed over
-stood-over : (ts : List (Slot Key)) → Same (standing ts) []
-stood-over [] k = (refl, refl)
-stood-over (t ∷ ts) k = pick-case (λ (l : Log Key). (since keys k l ≡ []) × (begun keys k l ≡ false)) (t .used) (stood-over ts k) (stood-over ts k)
-
 -- ---- behind a front part of a run
-module _ (edition : Edition) {M : Type 0} (t : Trace Out M) (rs : List (ℕ × List ℕ)) (back : Run) where
+module _ (edition : Edition) (start : List (Slot Key)) {M : Type 0} (t : Trace Out M) (rs : List (ℕ × List ℕ)) (back : Run) where
   abbrev Agrees : ℕ → List (ℕ × List ℕ) → Type 0
   Agrees p here = (j : ℕ) → p ≤ j → reportAt j rs ≡ reportAt j here
 
@@ -254,8 +213,8 @@ module _ (edition : Edition) {M : Type 0} (t : Trace Out M) (rs : List (ℕ × L
     pub log : Log Key
     pub heard-log : Log Key
     pub deeds-on : P ≡ runs keys (past log (boxed s a)) (deeds keys (bacnet edition) t q back)
-    pub heard-on : heard ≡ heardLog edition t rs q back heard-log
-    pub same : Same log heard-log
+    pub heard-on : heard ≡ heardLog edition start t rs q back heard-log
+    pub tied : Tied start s a log heard-log
     pub slots-on : slots ≡ walk (rules keys (bacnet edition)) t q s a back .slots
     pub area-on : area ≡ walk (rules keys (bacnet edition)) t q s a back .area
     pub says : Agrees q (walk (rules keys (bacnet edition)) t q s a back .reports)
@@ -267,15 +226,15 @@ module _ (edition : Edition) {M : Type 0} (t : Trace Out M) (rs : List (ℕ × L
   at-it p r here h = h p (omega arith) ∙ rw (eq-eqb p p refl)
 
   module _ (q p : ℕ) (k : List (Slot Key) → List ℕ → Ends M (List (Slot Key)) (List ℕ) (List ℕ)) (ds : List (Deed Key)) (heard : Log Key → Log Key)
-      (on : (s : List (Slot Key)) (a : List ℕ) (log log′ : Log Key) → Agrees (p + 1) (k s a .reports) → Same log log′
+      (on : (s : List (Slot Key)) (a : List ℕ) (log log′ : Log Key) → Agrees (p + 1) (k s a .reports) → Tied start s a log log′
       → Behind q (runs keys (past log (boxed s a)) ds) (heard log′) (k s a .slots) (k s a .area))
       (s : List (Slot Key)) (a : List ℕ) (log log′ : Log Key) where
     by-segment : (o : Out) (z : Option (Segment Key)) → segmentAt edition o ≡ z
-        → (let d = actOn keys (bacnet edition) z o s a in Agrees p ((p, d .0) ∷ k (d .1) (d .2) .reports) → Same log log′
+        → (let d = actOn keys (bacnet edition) z o s a in Agrees p ((p, d .0) ∷ k (d .1) (d .2) .reports) → Tied start s a log log′
         → Behind q (runs keys (past log (boxed s a)) (deedOf keys (bacnet edition) z ++ ds)) (heard (heardEntry z (reportAt p rs) log′))
         (k (d .1) (d .2) .slots) (k (d .1) (d .2) .area))
-    by-segment o none e h same = on s a log log′ (past-it p (plainAt edition o) (k s a .reports) h) same
-    by-segment o (some g) e h same =
+    by-segment o none e h tied = on s a log log′ (past-it p (plainAt edition o) (k s a .reports) h) tied
+    by-segment o (some g) e h tied =
         let d = rebuild keys g (boxed s a) in
         let r = answeredAt edition o (d .answer) (d .box .area) in
         let rest = k (d .box .slots) (d .box .area) in
@@ -283,29 +242,29 @@ module _ (edition : Edition) {M : Type 0} (t : Trace Out M) (rs : List (ℕ × L
         subst (λ (v : Option (List ℕ)). Behind q P (heard (heardEntry (some g) v log′)) (rest .slots) (rest .area))
         (sym (at-it p r (rest .reports) h))
         (on (d .box .slots) (d .box .area) (said g (d .answer) ∷ log) (said g (answerIn r) ∷ log′) (past-it p r (rest .reports) h)
-        (same-said g (d .answer) (answerIn r) log log′ (accepted-told (g .key) (d .answer) (d .box .area) r (segment-told edition o g e (boxed s a))) same))
+        (tied-said start s a log log′ tied g (answerIn r) (alike-told (g .key) (d .answer) (d .box .area) r (segment-told edition o g e (boxed s a)))))
 
-    by-outcome : (y : Option Out) → (let w = acted (rules keys (bacnet edition)) p y s a k in Agrees p (w .reports) → Same log log′
+    by-outcome : (y : Option Out) → (let w = acted (rules keys (bacnet edition)) p y s a k in Agrees p (w .reports) → Tied start s a log log′
         → Behind q (runs keys (past log (boxed s a)) (deedsAt keys (bacnet edition) y ++ ds)) (heard (heardEntry (segmentEnding edition y) (reportAt p rs) log′)) (w .slots) (w .area))
-    by-outcome none h same = on s a log log′ (λ j l. h j (omega arith)) same
-    by-outcome (some o) h same = by-segment o (segmentAt edition o) refl h same
+    by-outcome none h tied = on s a log log′ (λ j l. h j (omega arith)) tied
+    by-outcome (some o) h tied = by-segment o (segmentAt edition o) refl h tied
 
   behind : (q : ℕ) (front : Run) (p : ℕ) → p + length (wire front) ≡ q → (s : List (Slot Key)) (a : List ℕ) (log log′ : Log Key)
-      → (let run = front ++ back in let w = walk (rules keys (bacnet edition)) t p s a run in Agrees p (w .reports) → Same log log′
-      → Behind q (runs keys (past log (boxed s a)) (deeds keys (bacnet edition) t p run)) (heardLog edition t rs p run log′) (w .slots) (w .area))
+      → (let run = front ++ back in let w = walk (rules keys (bacnet edition)) t p s a run in Agrees p (w .reports) → Tied start s a log log′
+      → Behind q (runs keys (past log (boxed s a)) (deeds keys (bacnet edition) t p run)) (heardLog edition start t rs p run log′) (w .slots) (w .area))
   unfolding Rows.forget
-  behind q [] p e s a log log′ h same =
+  behind q [] p e s a log log′ h tied =
       let w = walk (rules keys (bacnet edition)) t p s a back in
       let z : p ≡ q = omega (arith, e) in
-      subst (λ (q : ℕ). Behind q (runs keys (past log (boxed s a)) (deeds keys (bacnet edition) t p back)) (heardLog edition t rs p back log′) (w .slots) (w .area)) z
-      (record { s = s; a = a; log = log; heard-log = log′; deeds-on = refl; heard-on = refl; same = same; slots-on = refl; area-on = refl; says = h })
-  behind q (trunk e ∷ front) p z s a log log′ h same =
+      subst (λ (q : ℕ). Behind q (runs keys (past log (boxed s a)) (deeds keys (bacnet edition) t p back)) (heardLog edition start t rs p back log′) (w .slots) (w .area)) z
+      (record { s = s; a = a; log = log; heard-log = log′; deeds-on = refl; heard-on = refl; tied = tied; slots-on = refl; area-on = refl; says = h })
+  behind q (trunk e ∷ front) p z s a log log′ h tied =
       let run = front ++ back in
-      by-outcome q p (λ s a. walk (rules keys (bacnet edition)) t (p + 1) s a run) (deeds keys (bacnet edition) t (p + 1) run) (heardLog edition t rs (p + 1) run)
-      (λ s a log log′ h same. behind q front (p + 1) (omega (arith, z)) s a log log′ h same) s a log log′ (ended p t) h same
-  behind q (forget i ∷ front) p z s a log log′ h same =
-      behind q front p z (Rows.forgotten keys i s) a (after keys (forgetting i) (past log (boxed s a)) .log) log′ h
-      (pick-case (λ (l : Log Key). Same l log′) (slotAt keys s i .used) same same)
+      by-outcome q p (λ s a. walk (rules keys (bacnet edition)) t (p + 1) s a run) (deeds keys (bacnet edition) t (p + 1) run) (heardLog edition start t rs (p + 1) run)
+      (λ s a log log′ h tied. behind q front (p + 1) (omega (arith, z)) s a log log′ h tied) s a log log′ (ended p t) h tied
+  behind q (forget i ∷ front) p z s a log log′ h tied =
+      behind q front p z (Rows.forgotten keys i s) a (after keys (forgetting i) (past log (boxed s a)) .log) (heardForget (heardKey start i log′) log′) h
+      (tied-forget start s a log log′ tied i)
 
 -- ---- the last place
 module _ (c : Collector) (area : List ℕ) (P : Passes c) (z : length area ≡ 65536) (front : Run) (x : Event) where
@@ -328,8 +287,11 @@ module _ (c : Collector) (area : List ℕ) (P : Passes c) (z : length area ≡ 6
   log = heardFrom c run (end .reports)
 
   B : (let P = runs keys (past (standing (slotsOf c)) (boxed (slotsOf c) area)) (deeds keys (bacnet (c .edition)) read (length (heldOf (c .receiver))) run) in
-      Behind (c .edition) read (end .reports) (trunk x ∷ []) place P log (end .slots) (end .area))
-  B = behind (c .edition) read (end .reports) (trunk x ∷ []) place front (length (heldOf (c .receiver))) refl (slotsOf c) area (standing (slotsOf c)) [] (λ j l. refl) (stood-over (slotsOf c))
+      Behind (c .edition) (slotsOf c) read (end .reports) (trunk x ∷ []) place P log (end .slots) (end .area))
+  B =
+      let s = slotsOf c in
+      behind (c .edition) s read (end .reports) (trunk x ∷ []) place front (length (heldOf (c .receiver))) refl s area (standing s) (standing s) (λ j l. refl)
+      (tied-start s area (good-of keys key-laws 4 s area (P .slots) (eq-eqb (length area) 65536 z)))
 
   four : length (end .slots) ≡ 4
   unfolding reading
@@ -376,7 +338,7 @@ module _ (c : Collector) (area : List ℕ) (P : Passes c) (z : length area ≡ 6
       agree : Same hist log
       agree =
           subst (λ (l : Log Key). Same l log) (sym hist-is) (subst (λ (l : Log Key). Same (said g (done .answer) ∷ B .log) l) (sym log-is)
-          (same-said g (done .answer) (answerIn line) (B .log) (B .heard-log) (accepted-told (g .key) (done .answer) (done .box .area) line told) (B .same)))
+          (same-said g (done .answer) (answerIn line) (B .log) (B .heard-log) (alike-told (g .key) (done .answer) (done .box .area) line told) (B .tied .same)))
 
       area-is : end .area ≡ done .box .area
       area-is = B .area-on ∙ rw (here, is)
@@ -395,7 +357,7 @@ module _ (c : Collector) (area : List ℕ) (P : Passes c) (z : length area ≡ 6
         whole-message : begun keys (g .key) log ≡ true → Rebuilt keys (g .key) log (end .area) i n
         whole-message bg =
             rebuilt-same agree (Collecting.messages c area P z run front x o g here is (g .key) i n
-            (subst (λ (l : Log Key). Completes l (g .key) i n) (sym hist-is) (refl, e)) (agree (g .key) .1 ∙ bg))
+            (subst (λ (l : Log Key). Completes l (g .key) i n) (sym hist-is) (refl, e)) (agree (g .key) .begun ∙ bg))
 
         -- the octets whose tags were judged are the joined ones
         judged : begun keys (g .key) log ≡ true → itemsOf (part (room * i) n (done .box .area)) ≡ itemsOf (joined (since keys (g .key) log))
@@ -418,18 +380,15 @@ module _ (c : Collector) (area : List ℕ) (P : Passes c) (z : length area ≡ 6
       ends-so : segmentEnding (c .edition) (ended place read) ≡ some g
       ends-so = ap (segmentEnding (c .edition)) here ∙ is
 
-      mors : ByMor g (done o g here is)
-      mors = by-mor g (boxed (B .s) (B .a))
-
       is-four : (n : ℕ) → kindIn (line o g here is) ≡ n → eqb n 4 ≡ eqb kind 4
       is-four n d = ap (λ (n : ℕ). eqb n 4) (sym d ∙ k′)
 
       by : Told (g .key) (done o g here is .answer) (done o g here is .box .area) (line o g here is)
           → OfSegment c front x (end .reports) (end .area) report (eqb kind 4)
       by (not-taken n w b d q) = absurd (omega (arith, d, k′, row .1))
-      by (more i n w d y) = (g, ends-so, subst (λ (r : List ℕ). Names r (g .key)) (sym eq) y, taken-mor g (done o g here is) mors i n w ∙ is-four 4 d)
+      by (more i n w d s y) = (g, ends-so, subst (λ (r : List ℕ). Names r (g .key)) (sym eq) y, mor-taken keys key-laws g (boxed (B .s) (B .a)) (B .tied .good .apart) i n w ∙ is-four 4 d)
       by (faulty i n w d b f) = absurd (omega (arith, d, k′, row .1))
-      by (fine i n w d s l y f) = (g, ends-so, subst (λ (r : List ℕ). Names r (g .key)) (sym eq) y, completed-mor g (done o g here is) mors i n w ∙ is-four 5 d)
+      by (fine i n w d s l y f) = (g, ends-so, subst (λ (r : List ℕ). Names r (g .key)) (sym eq) y, mor-completed keys key-laws g (boxed (B .s) (B .a)) (B .tied .good .apart) i n w .0 ∙ is-four 5 d)
 
   complete-by : (report : List ℕ) (o : Out) → ended place read ≡ some o → (g : Segment Key) → segmentAt (c .edition) o ≡ some g
       → report ≡ rules keys (bacnet (c .edition)) .act o (B .s) (B .a) .0
@@ -449,7 +408,7 @@ module _ (c : Collector) (area : List ℕ) (P : Passes c) (z : length area ≡ 6
       by : Told (g .key) (done o g here is .answer) (done o g here is .box .area) (line o g here is)
           → Whole c front x (end .reports) (end .area) report g
       by (not-taken n w b d q) = absurd (omega (arith, d, k′))
-      by (more i n w d y) = absurd (omega (arith, d, k′))
+      by (more i n w d s y) = absurd (omega (arith, d, k′))
       by (faulty i n w d b f) = absurd (omega (arith, d, k′))
       by (fine i n w d s l y f) =
           rw (eq, s, l) (λ bg.
@@ -476,7 +435,7 @@ module _ (c : Collector) (area : List ℕ) (P : Passes c) (z : length area ≡ 6
           let t : tagNumber n ≡ true = subst (λ (m : ℕ). tagNumber m ≡ true) (ap numberIn eq ∙ q) tag in
           let u : tagNumber n ≡ false = rw (le-leb 30 n (omega (arith, b .0)), lt-leb n 39 (omega (arith, b .0))) in
           impossible (cc)
-      by (more i n w d y) = absurd (omega (arith, d, k′))
+      by (more i n w d s y) = absurd (omega (arith, d, k′))
       by (fine i n w d s l y f) = absurd (omega (arith, d, k′))
       by (faulty i n w d b f) = λ bg. (
         i,
@@ -515,6 +474,76 @@ completed-over-octets state c area l P z front x h o =
     let q = octets-demand3 state c area l P z (front ++ (trunk x ∷ [])) h o in
     subst (λ (r : List (ℕ × List ℕ)). AsReported c front x r (h .area)) (sym (q .0))
     (subst (λ (a : List ℕ). AsReported c front x (end c area P z front x .reports) a) (sym (q .1)) (as-reported c area P z front x))
+
+-- ---- what starts, behind a run
+module _ (c : Collector) (area : List ℕ) (P : Passes c) (z : length area ≡ 65536) where
+  abbrev first : ℕ
+  first = length (heldOf (c .receiver))
+
+  fair-start : Fair keys (boxed (slotsOf c) area)
+  fair-start = good-of keys key-laws 4 (slotsOf c) area (P .slots) (eq-eqb (length area) 65536 z)
+
+  module _ (all run : Run) where
+    abbrev readAll : Trace Out Receiver
+    readAll = readFrom (c .receiver) (wire all)
+
+    abbrev walked : BoxEnd
+    walked = walk (rules keys (bacnet (c .edition))) readAll first (slotsOf c) area run
+
+    abbrev recorded : Past Key
+    recorded = fromStart keys (boxed (slotsOf c) area) (deeds keys (bacnet (c .edition)) readAll first run)
+
+    -- by the recording's history: it and the slots agree on what each key awaits
+    starts-in : (g : Segment Key) → (starting keys g (recorded .log) ≡ true) ↔ Starts keys g (boxed (walked .slots) (walked .area))
+    starts-in g =
+        let S = sure keys key-laws (boxed (slotsOf c) area) fair-start (deeds keys (bacnet (c .edition)) readAll first run) in
+        let box : recorded .box ≡ boxed (walked .slots) (walked .area) = sym (boxes keys (bacnet (c .edition)) readAll run first (standing (slotsOf c)) (slotsOf c) area) in
+        let e = starting-starts keys (recorded .log) g (recorded .box) (S .recalls) in
+        let w = starts-exactly keys key-laws g (recorded .box) (S .good .apart) in
+        subst (λ (b : Box Key). (starting keys g (recorded .log) ≡ true) ↔ Starts keys g b) box (λ t. w .0 (sym e ∙ t), λ t. e ∙ w .1 t)
+
+  -- what is heard behind a whole run says the same of every key
+  module _ (run : Run) where
+    abbrev whole-run : BoxEnd
+    whole-run = walked run run
+
+    abbrev HeardAll : Run → Type 0
+    HeardAll r =
+        let t = readFrom (c .receiver) (wire run) in
+        let w = walk (rules keys (bacnet (c .edition))) t first (slotsOf c) area r in
+        Behind (c .edition) (slotsOf c) t (whole-run .reports) [] (first + length (wire run)) (fromStart keys (boxed (slotsOf c) area) (deeds keys (bacnet (c .edition)) t first r))
+        (heardLog (c .edition) (slotsOf c) t (whole-run .reports) first r (standing (slotsOf c))) (w .slots) (w .area)
+
+    heard-all : HeardAll run
+    heard-all =
+        let s = slotsOf c in
+        let t = readFrom (c .receiver) (wire run) in
+        subst HeardAll (append-nil run)
+        (behind (c .edition) s t (whole-run .reports) [] (first + length (wire run)) run first refl s area (standing s) (standing s)
+        (λ j l. ap (λ (r : Run). reportAt j (walk (rules keys (bacnet (c .edition))) t first s area r .reports)) (sym (append-nil run))) (tied-start s area fair-start))
+
+    same-all : Same (recorded run run .log) (heardFrom c run (whole-run .reports))
+    same-all =
+        subst (λ (p : Past Key). Same (p .log) (heardFrom c run (whole-run .reports))) (sym (heard-all .deeds-on))
+        (subst (λ (l : Log Key). Same (heard-all .log) l) (sym (heard-all .heard-on)) (heard-all .tied .same))
+
+    starts-by-heard : (g : Segment Key) → (starting keys g (heardFrom c run (whole-run .reports)) ≡ true) ↔ Starts keys g (boxed (whole-run .slots) (whole-run .area))
+    starts-by-heard g =
+        let e = starting-by keys (recorded run run .log) (heardFrom c run (whole-run .reports)) g (same-all (g .key) .awaited) in
+        let w = starts-in run run g in
+        (λ t. w .0 (e ∙ t), λ t. sym e ∙ w .1 t)
+
+pub starts-heard : StartsHeard
+unfolding reading
+starts-heard c area P z run e o g =
+    subst (λ (w : End). (starting keys g (heardFrom c run (w .reports)) ≡ true) ↔ Starts keys g (boxed (w .slots) (w .area)))
+    (sym (read-by-position c area P z run e o)) (starts-by-heard c area P z run g)
+
+pub starts-recorded : StartsRecorded
+starts-recorded c area P z all run g = starts-in c area P z all run g
+
+pub begun-exact : BegunExactly
+begun-exact k log = begun-exactly keys key-laws k log
 
 pub can-be-linked : CanBeLinked
 can-be-linked = Offerable.some-way

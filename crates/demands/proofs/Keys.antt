@@ -30,7 +30,7 @@ use Rattle.apdu.specs.declared.Edition.{Edition}
 use Rattle.apdu.specs.declared.Pdu.{Pdu}
 use Rattle.apdu.specs.declared.Answer as Apdu
 use Rattle.apdu.specs.declared.Answer.the-variants.{Good, Refused}
-use Rattle.messages.specs.Slots.{room, Segment, Slot, Box, boxed, lowest, orElse, isSome, empty, slotAt, openTo, isFree, slotOf}
+use Rattle.messages.specs.Slots.{room, Segment, Slot, Box, boxed, lowest, orElse, isSome, empty, slotAt, isFree, slotOf}
 use Rattle.messages.specs.Rows as Rows
 use Rattle.messages.specs.Rows.{Answer, rebuild}
 use Rattle.messages.specs.Rows.Answer.{refused, taken, completed}
@@ -38,6 +38,7 @@ use Rattle.messages.specs.History.{Deed, Log, Past, accepted, of, starting, sin
 use Rattle.messages.specs.History.Deed.{segment, forgetting}
 use Rattle.messages.specs.History.Entry.{said}
 use Rattle.messages.proofs.Lowest.{lowest-some}
+use Rattle.messages.proofs.Keyed.{slot-some}
 use Rattle.rebuild.specs.View.{keys}
 use Rattle.rebuild.specs.Given.{Header, KeyFits}
 use Rattle.rebuild.specs.declared.Key.{Key}
@@ -48,7 +49,7 @@ use Rattle.collector.specs.Heard.{heardOf, routeOf, partsOf}
 use Rattle.collector.specs.Frame.{Content, contentOf, npduContent, apduContent, keyOf, segmentIn, segmentFrom, segmentAt, bacnet}
 use Rattle.collector.specs.Calls.{slotsOf}
 use Rattle.collector.proofs.Given.{known}
-use Rattle.demands.specs.Completed.{answerIn, reportAt, segmentEnding, heardEntry, heardLog}
+use Rattle.demands.specs.Completed.{answerIn, reportAt, segmentEnding, heardEntry, heardKey, heardForget, heardLog}
 use Rattle.demands.proofs.FiftyNine.{to-header, of-header}
 use Rattle.demands.specs.Keys.{netIf, addressIf, netOf, addressOf, Agree, KeyHeard, KeyParts, Carried, AllCarried, OneSlotOneKey}
 
@@ -315,19 +316,25 @@ module _ {M : Type 0} (e : Edition) (t : Trace Out M) (first n : ℕ) (k : Key) 
   place-joins p there (some (good head payload)) here r log a = entry-joins p there head payload here (segmentAt e (good head payload)) refl r log a
   place-joins p there (some (damage x)) here r log a = a
 
-  run-joins : (reports : List (ℕ × List ℕ)) (p : ℕ) (run : Run) → first ≤ p → p + length (wire run) ≤ first + n → (log : Log Key) → Joins log → Joins (heardLog e t reports p run log)
-  run-joins reports p [] l h log a = a
-  run-joins reports p (trunk x ∷ run) l h log a =
-      run-joins reports (p + 1) run (omega arith) (omega arith) (heardEntry (segmentEnding e (ended p t)) (reportAt p reports) log)
-      (place-joins p (l, omega arith) (ended p t) refl (reportAt p reports) log a)
-  run-joins reports p (forget i ∷ run) l h log a = run-joins reports p run l h log a
+  -- a forget order is no segment
+  forget-joins : (x : Option Key) (log : Log Key) → Joins log → Joins (heardForget x log)
+  forget-joins none log a = a
+  forget-joins (some j) log a = a
 
-  -- the same in the recording's own history: it begins with the slots that are open, which are no segments
+  run-joins : (s : List (Slot Key)) (reports : List (ℕ × List ℕ)) (p : ℕ) (run : Run) → first ≤ p → p + length (wire run) ≤ first + n → (log : Log Key) → Joins log
+      → Joins (heardLog e s t reports p run log)
+  run-joins s reports p [] l h log a = a
+  run-joins s reports p (trunk x ∷ run) l h log a =
+      run-joins s reports (p + 1) run (omega arith) (omega arith) (heardEntry (segmentEnding e (ended p t)) (reportAt p reports) log)
+      (place-joins p (l, omega arith) (ended p t) refl (reportAt p reports) log a)
+  run-joins s reports p (forget i ∷ run) l h log a = run-joins s reports p run l h (heardForget (heardKey s i log) log) (forget-joins (heardKey s i log) log a)
+
+  -- nor is a slot that stood open
   standing-joins : (ts : List (Slot Key)) → Joins (standing ts)
   standing-joins [] = tt
   standing-joins (s ∷ ts) = pick-case Joins (s .used) (standing-joins ts) (standing-joins ts)
 
-  -- deeds that keep it so: where all that is joined before them is carried, all that is joined behind them is too
+  -- the same in the recording's own history. Deeds that keep it so: where all that is joined before them is carried, all that is joined behind them is too
   abbrev Keep : List (Deed Key) → Type 0
   Keep ds = (w : Past Key) → Joins (w .log) → Joins (runs keys w ds .log)
 
@@ -396,9 +403,8 @@ module _ (g : Segment Key) (b : Box Key) where
       pick-case Lays (both (non anew) (non (isSome x))) (refused-names 51)
       (pick-case Lays (both later (non (eqb (g .number) (t .next)))) (refused-names 52)
       (pick-case Lays (both later (non (eqb (g .choice) (t .choice)))) (refused-names 53)
-      (pick-case Lays (Rows.spent (g .number) (g .mor)) (refused-names 55)
       (pick-case Lays (ltb room (n + length (g .octets))) (refused-names 54)
-      (settled-lays (orElse x (lowest (isFree keys) (b .slots))) n l)))))
+      (settled-lays (orElse x (lowest (isFree keys) (b .slots))) n l))))
 
   -- the lowest free slot is not open; the key's own has the key
   free-lands : (x : Option ℕ) → lowest (isFree keys) (b .slots) ≡ x → Lands x
@@ -410,9 +416,7 @@ module _ (g : Segment Key) (b : Box Key) where
   lands : (x : Option ℕ) → slotOf keys (g .key) (b .slots) ≡ x → Lands (orElse x (lowest (isFree keys) (b .slots)))
   lands none e = free-lands (lowest (isFree keys) (b .slots)) refl
   lands (some i) e =
-      let t = slotAt keys (b .slots) i in
-      let is = lowest-some (openTo keys (g .key)) (empty keys) (b .slots) i e .1 in
-      λ u. key-laws .only (t .key) (g .key) (both-right (t .used) _ is)
+      λ u. slot-some keys key-laws (g .key) (b .slots) i e .2
 
   rebuild-lays : Lays (rebuild keys g b)
   unfolding rebuild
@@ -422,8 +426,9 @@ pub one-slot-one-key : OneSlotOneKey
 one-slot-one-key =
     record {
       joined = λ c run reports k.
-          run-joins (c .edition) (readFrom (c .receiver) (wire run)) (length (heldOf (c .receiver))) (length (wire run)) k reports (length (heldOf (c .receiver))) run
-          (omega arith) (omega arith) [] tt;
+          run-joins (c .edition) (readFrom (c .receiver) (wire run)) (length (heldOf (c .receiver))) (length (wire run)) k (slotsOf c) reports
+          (length (heldOf (c .receiver))) run (omega arith) (omega arith) (standing (slotsOf c))
+          (standing-joins (c .edition) (readFrom (c .receiver) (wire run)) (length (heldOf (c .receiver))) (length (wire run)) k (slotsOf c));
       recorded = λ c area all run k.
           history-joins (c .edition) (readFrom (c .receiver) (wire all)) (length (heldOf (c .receiver))) (length (wire run)) k (slotsOf c) area run refl;
       laid = λ g b i n e u. same-agree _ _ (rebuild-lays g b i n e u);

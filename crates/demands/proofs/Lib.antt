@@ -13,14 +13,17 @@ pub mod Contracts
 pub mod HeaderRows
 pub mod Editions
 pub mod SegmentRows
+pub mod Longer
 pub mod TagRows
 pub mod Steps
 pub mod ItemRows
 pub mod StateOctets
+pub mod HeardKeys
 pub mod Completed
 pub mod CompletedRun
 pub mod Keys
 pub mod RoutedRun
+pub mod LongerRun
 pub mod Damage
 pub mod Exported
 pub mod OneExported

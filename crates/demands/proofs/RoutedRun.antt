@@ -97,7 +97,7 @@ told y slot =
     reportOctets (byTags y (complete (record { kind = 0x06; destination = 0x21; source = 0x43 }) (record { first = 0x38; invoke = 0x57; choice = 0x0E }) slot 3))
 
 abbrev reportsBy : Items.Out → Items.Out → List (ℕ × List ℕ)
-reportsBy x y = (22, heldIn 0) ∷ (45, heldIn 1) ∷ (67, told x 0) ∷ (89, told y 1) ∷ []
+reportsBy x y = (22, heldIn 0 2) ∷ (45, heldIn 1 2) ∷ (67, told x 0) ∷ (89, told y 1) ∷ []
 
 abbrev readOf : Edition → List ℕ → BoxEnd
 readOf d area = reading (rules keys (bacnet d)) (freshCollector d .receiver) (slotsOf (freshCollector d)) area run
@@ -113,7 +113,7 @@ good-tags : (itemsOf of0B ≡ good (rec 0 6 0 0 1 2 ∷ []) 3) × (itemsOf of0C 
 unfolding itemsOf walk step closes ending more headAt numberAt lengthAt twoAt fourAt firstRule firstContent contentsAt wholeAt signBad signedAt contextAt applicationAt least most valueAt
 good-tags = (refl, refl)
 
-tags-told : reportsBy (itemsOf of0B) (itemsOf of0C) ≡ (22, heldIn 0) ∷ (45, heldIn 1) ∷ (67, completeIn 0) ∷ (89, completeIn 1) ∷ []
+tags-told : reportsBy (itemsOf of0B) (itemsOf of0C) ≡ (22, heldIn 0 2) ∷ (45, heldIn 1 2) ∷ (67, completeIn 0 3) ∷ (89, completeIn 1 3) ∷ []
 unfolding reportOctets digits
 tags-told = rw (good-tags .0, good-tags .1)
 

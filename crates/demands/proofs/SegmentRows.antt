@@ -18,10 +18,13 @@ use Rattle.rebuild.proofs.Page.{key-laws}
 use Rattle.rebuild.proofs.Giving.{gives-by, taking-on, step-one}
 use Rattle.demands.specs.SegmentRows.{OneSlotEach, SegmentRows, TakeRows, SegmentsWorked, SegmentsInOrder}
 
-apart-of : (s : List (Slot Key)) → OneSlotEach s → Apart keys s
+pub apart-of : (s : List (Slot Key)) → OneSlotEach s → Apart keys s
 apart-of s ok i j li lj u v k =
     by-test (ltb i j) (λ t. absurd (ok i j (ltb-true i j t) lj u v k))
     (λ t. by-test (ltb j i) (λ d. absurd (ok j i (ltb-true j i d) li v u (sym k))) (λ d. omega (arith, ltb-false i j t, ltb-false j i d)))
+
+pub one-each-of : (s : List (Slot Key)) → Apart keys s → OneSlotEach s
+one-each-of s apart i j lt l u v k = let e : i ≡ j = apart i j (omega arith) l u v k in omega arith
 
 pub segment-rows : SegmentRows
 segment-rows g b ok = by-the-table keys key-laws g b (apart-of (b .slots) ok)

@@ -12,10 +12,10 @@ use borrow.Author.Tests.{ltb-false, eqb-true, eqb-false}
 use Rattle.octets.specs.Choice.{both, non, pick-case, pick-cases, by-test, pick-false, pick-true, impossible}
 use Rattle.octets.specs.Splice.{splice}
 use Rattle.messages.specs.Slots.{room, Segment, Slot, Box, boxed, lowest, orElse, isSome, empty, slotAt, openTo, isFree, slotOf}
-use Rattle.messages.specs.Rows.{Answer, Done, startsAt, spent, starts, kept, lost, freeAt, recordAt, settle, settled, fitted, before, rows, rebuild}
+use Rattle.messages.specs.Rows.{Answer, Done, startsAt, awaiting, starts, kept, lost, freeAt, recordAt, settle, settled, fitted, before, rows, rebuild}
 use Rattle.messages.specs.Rows.Answer.{refused, taken, completed}
 use Rattle.messages.proofs.Lowest.{lowest-some}
-use Rattle.messages.proofs.Starts.{starts-new}
+use Rattle.messages.proofs.Starts.{starts-new, next-is}
 use Rattle.messages.proofs.Tests.{never}
 use Rattle.rebuild.specs.View.{keys, view, segmentOf}
 use Rattle.rebuild.specs.Calls as Rebuild
@@ -23,8 +23,12 @@ use Rattle.rebuild.specs.declared.Key.{Key}
 use Rattle.rebuild.specs.declared.Step.the-variants.{Refused}
 use Rattle.rebuild.proofs.Seen.{view-one}
 use Rattle.rebuild.proofs.Giving.{gives-by, taking-60, taking-on}
-use Rattle.demands.specs.Words.{Between, inFront, SegmentLaid, SegmentChanges}
+use Rattle.demands.specs.Words.{Between, inFront, waits, SegmentLaid, SegmentChanges}
 use Rattle.demands.specs.Demands.{SegmentDoes, TakeDoes, FreeDoes}
+
+-- the record that is awaited, in the page's words
+pub waits-is : (g : Segment Key) (n : ℕ) → awaiting keys g n ≡ waits g n
+waits-is g n = rw (next-is (g .number))
 
 module _ (g : Segment Key) (b : Box Key) where
   abbrev Does : Done Key → Type 0
@@ -33,16 +37,16 @@ module _ (g : Segment Key) (b : Box Key) where
   keeps : (n : ℕ) → Between 50 53 n → Does (kept n b)
   keeps n h = (refl, inl (h, refl))
 
-  loses : (n : ℕ) (o : Option ℕ) → slotOf keys (g .key) (b .slots) ≡ o → Between 54 55 n → Does (lost keys n o b)
+  loses : (n : ℕ) (o : Option ℕ) → slotOf keys (g .key) (b .slots) ≡ o → n ≡ 54 → Does (lost keys n o b)
   loses n o e h = (refl, inr (h, ap (λ (x : Option ℕ). freeAt keys x (b .slots)) (sym e)))
 
   settles : (i n : ℕ) → i < length (b .slots) → n ≡ inFront g b i → n + length (g .octets) ≤ room → Does (settle keys g i n b)
-  settles i n l e f = rw e (pick-case Does (g .mor) laid laid)
+  settles i n l e f = rw (e, waits-is g (inFront g b i + length (g .octets))) (pick-case Does (g .mor) laid laid)
     where
       laid : {t : Slot Key} → SegmentLaid g b i (inFront g b i + length (g .octets)) t (set (b .slots) i t) (splice (b .area) (room * i + inFront g b i) (g .octets))
       laid = record { slot = l; total = refl; fits = rw e at f; laid = refl; records = refl }
 
-  -- the slot that a segment goes to: its key's, or for number 0 the lowest free one
+  -- the slot that a segment goes to: its key's, or the lowest free one where the key is not open
   abbrev Goes : Option ℕ → ℕ → Type 0
   Goes x n = (i : ℕ) → x ≡ some i → (i < length (b .slots)) × (n ≡ inFront g b i)
 
@@ -63,9 +67,8 @@ module _ (g : Segment Key) (b : Box Key) where
 
   fits : (o : Option ℕ) → slotOf keys (g .key) (b .slots) ≡ o → (n : ℕ) → Goes (orElse o (lowest (isFree keys) (b .slots))) n → Does (fitted keys g o n b)
   fits o e n h =
-      pick-case Does (spent (g .number) (g .mor)) (loses 55 o e (omega arith, omega arith))
-      (pick-cases Does (ltb room (n + length (g .octets))) (λ _. loses 54 o e (omega arith, omega arith)) (λ f.
-      finds (orElse o (lowest (isFree keys) (b .slots))) n h (ltb-false room (n + length (g .octets)) f)))
+      pick-cases Does (ltb room (n + length (g .octets))) (λ _. loses 54 o e refl) (λ f.
+      finds (orElse o (lowest (isFree keys) (b .slots))) n h (ltb-false room (n + length (g .octets)) f))
 
   by-rows : (o : Option ℕ) → slotOf keys (g .key) (b .slots) ≡ o → Does (rows keys g o (recordAt keys (b .slots) o) b)
   by-rows o e =
@@ -80,13 +83,13 @@ pub segment-does : SegmentDoes
 unfolding rebuild
 segment-does g b = by-rows g b (slotOf keys (g .key) (b .slots)) refl
 
--- ---- rebuild::take: its own refusals are 50 to 55, so 60 is the area's alone
+-- ---- rebuild::take: its own refusals are 50 to 54, so 60 is the area's alone
 not-sixty : (g : Segment Key) (b : Box Key) (w : Answer) (slots : List (Slot Key)) (area : List ℕ) → SegmentChanges g b w slots area → Rebuild.stepOf w ≡ Refused 60 → ⊥
 not-sixty g b (refused n) slots area h e = let z : n ≡ 60 = cc in by (h .1) z
   where
-    by : (Between 50 53 n × (slots ≡ b .slots)) ⊎ (Between 54 55 n × (slots ≡ freeAt keys (slotOf keys (g .key) (b .slots)) (b .slots))) → n ≡ 60 → ⊥
+    by : (Between 50 53 n × (slots ≡ b .slots)) ⊎ ((n ≡ 54) × (slots ≡ freeAt keys (slotOf keys (g .key) (b .slots)) (b .slots))) → n ≡ 60 → ⊥
     by (inl x) z = omega (arith, x .0 .1)
-    by (inr x) z = omega (arith, x .0 .1)
+    by (inr x) z = omega (arith, x .0)
 not-sixty g b (taken i n) slots area h e = impossible (cc)
 not-sixty g b (completed i n) slots area h e = impossible (cc)
 

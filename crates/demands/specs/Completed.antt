@@ -1,7 +1,8 @@
 -- A completed message as it is reported, over the collector's calls and over the exported ones. "Each message begun and completed in the run is its key's
--- accepted segments since its latest segment 0, joined in number order."
+-- accepted segments since its latest starting segment 0, joined in order of acceptance."
 use Prim.Native.Nat.{ℕ, _+_, _/_, _<_}
 use mathlib.Core.Path.{_≡_}
+use mathlib.Core.Logic.{_↔_}
 use mathlib.Core.Bool.{Bool, true, false}
 use mathlib.Core.List.{List, [], _∷_, _++_}
 use mathlib.Core.Option.{Option, none, some}
@@ -10,22 +11,24 @@ use lib.ListN.{length}
 use Rattle.octets.specs.Choice.{pick, both}
 use Rattle.octets.specs.Reading.{oct}
 use Rattle.octets.specs.Numbers.{valueAt}
-use Rattle.runs.specs.Run.{Event, Run, wire, octs, Trace, ended}
+use Rattle.runs.specs.Run.{Event, Run, wire, octs, Trace, ended, walk}
 use Rattle.runs.specs.Run.Event.{octet}
 use Rattle.runs.specs.Run.Order.{trunk, forget}
 use Rattle.apdu.specs.declared.Edition.{Edition}
 use Rattle.trunk.specs.Reading.{Out, heldOf, readFrom}
 use Rattle.items.specs.Reading.{itemsOf}
 use Rattle.items.specs.Reading.Out.{bad}
-use Rattle.messages.specs.Slots.{Segment, part}
+use Rattle.messages.specs.Slots.{Segment, Slot, boxed, part, slotAt}
 use Rattle.messages.specs.Rows.{Answer}
 use Rattle.messages.specs.Rows.Answer.{refused, taken, completed}
-use Rattle.messages.specs.History.{Log, begun, since, joined, Rebuilt}
-use Rattle.messages.specs.History.Entry.{said}
+use Rattle.messages.specs.History.{Log, starting, begun, BeganIn, since, joined, Rebuilt, standing}
+use Rattle.messages.specs.History.Entry.{said, dropped, stood}
+use Rattle.messages.specs.Table.{Starts}
 use Rattle.rebuild.specs.View.{keys, nowhere}
 use Rattle.rebuild.specs.declared.Key.{Key}
-use Rattle.collector.specs.Frame.{segmentAt}
-use Rattle.collector.specs.Calls.{freshCollector}
+use Rattle.recordings.specs.Frames.{rules, history}
+use Rattle.collector.specs.Frame.{segmentAt, bacnet}
+use Rattle.collector.specs.Calls.{slotsOf, freshCollector}
 use Rattle.collector.specs.Offering.{Passes, End, Called}
 use Rattle.collector.specs.declared.Collector.{Collector}
 use Rattle.state.specs.Calls.{Loads}
@@ -80,16 +83,44 @@ heardEntry none report log = log
 heardEntry (some g) none log = log
 heardEntry (some g) (some report) log = said g (answerIn report) ∷ log
 
--- The history that is heard, latest first: the segments that end on the trunk, read off the recording, each with what the report at its place says of it.
--- t is the reading of the whole trunk, p the place at which the run begins.
-abbrev pub heardLog : {M : Type 0} → Edition → Trace Out M → List (ℕ × List ℕ) → ℕ → Run → Log Key → Log Key
-heardLog d t reports p [] log = log
-heardLog d t reports p (trunk e ∷ run) log = heardLog d t reports (p + 1) run (heardEntry (segmentEnding d (ended p t)) (reportAt p reports) log)
-heardLog d t reports p (forget i ∷ run) log = heardLog d t reports p run log
+-- The key that a slot is open to, as it is heard: at first as the start state's slots have it, and then by the reports. Kind 4 names the slot; 54 and a message's end,
+-- with good tags or bad, free the slot of their key.
+abbrev pub openKey : Slot Key → Option Key
+openKey t = pick (t .used) (some (t .key)) none
 
--- from the state c, by its edition
+abbrev pub without : Key → Option Key → Option Key
+without k none = none
+without k (some j) = pick (keys .same j k) none (some j)
+
+-- the key in slot i behind an answer to a segment of key k, where x was in it
+abbrev pub keyBehind : ℕ → Key → Answer → Option Key → Option Key
+keyBehind i k (refused n) x = pick (eqb n 54) (without k x) x
+keyBehind i k (taken j n) x = pick (eqb j i) (some k) x
+keyBehind i k (completed j n) x = without k x
+
+-- s: the slots at the start
+abbrev pub heardKey : List (Slot Key) → ℕ → Log Key → Option Key
+heardKey s i [] = openKey (slotAt keys s i)
+heardKey s i (said g w ∷ old) = keyBehind i (g .key) w (heardKey s i old)
+heardKey s i (dropped k ∷ old) = without k (heardKey s i old)
+heardKey s i (stood k n ∷ old) = heardKey s i old
+
+-- a forget order of a slot that is open to a key
+abbrev pub heardForget : Option Key → Log Key → Log Key
+heardForget none log = log
+heardForget (some k) log = dropped k ∷ log
+
+-- The history that is heard, latest first: the segments that end on the trunk, read off the recording, each with what the report at its place says of it, and the
+-- forget orders, each with the key that its slot was open to. t is the reading of the whole trunk, p the place at which the run begins.
+abbrev pub heardLog : {M : Type 0} → Edition → List (Slot Key) → Trace Out M → List (ℕ × List ℕ) → ℕ → Run → Log Key → Log Key
+heardLog d s t reports p [] log = log
+heardLog d s t reports p (trunk e ∷ run) log = heardLog d s t reports (p + 1) run (heardEntry (segmentEnding d (ended p t)) (reportAt p reports) log)
+heardLog d s t reports p (forget i ∷ run) log = heardLog d s t reports p run (heardForget (heardKey s i log) log)
+
+-- from the state c, by its edition; it begins with the slots that are open there
 abbrev pub heardFrom : Collector → Run → List (ℕ × List ℕ) → Log Key
-heardFrom c run reports = heardLog (c .edition) (readFrom (c .receiver) (wire run)) reports (length (heldOf (c .receiver))) run []
+heardFrom c run reports =
+    heardLog (c .edition) (slotsOf c) (readFrom (c .receiver) (wire run)) reports (length (heldOf (c .receiver))) run (standing (slotsOf c))
 
 -- A run up to a place of the trunk, from the state c: front, and then x at that place; its reports, and the message area behind it.
 module _ (c : Collector) (front : Run) (x : Event) where
@@ -101,7 +132,7 @@ module _ (c : Collector) (front : Run) (x : Event) where
 
   module _ (reports : List (ℕ × List ℕ)) (area : List ℕ) where
     -- Of a report of kind 5, where the segment g ends: the octets of the slot that it names, from the slot's first on and as many as it says, are the accepted
-    -- segments of g's key since the latest segment 0, joined in number order, where that one was in the run; and the tags of these octets are good.
+    -- segments of g's key since the latest starting segment 0, joined in order of acceptance, where that one was in the run; and the tags of these octets are good.
     abbrev pub Whole : List ℕ → Segment Key → Type 0
     Whole report g =
         let k = g .key in
@@ -139,6 +170,25 @@ CompletedAsReported = (c : Collector) (area : List ℕ) → Passes c → length 
 abbrev pub CompletedOverOctets : Type 0
 CompletedOverOctets = (state : List ℕ) (c : Collector) (area : List ℕ) → Loads state c → Passes c → length area ≡ 65536 → (front : Run) (x : Event) (h : Heard)
     → Linked (length (heldOf (c .receiver))) state area (front ++ (trunk x ∷ [])) h → AsReported c front x (h .reports) (h .area)
+
+-- ---- "begun in the run", "starting segment 0"
+-- A message of a key was begun exactly where somewhere in the history an accepted segment of the key started one, whatever came behind it.
+abbrev pub BegunExactly : Type 0
+BegunExactly = (k : Key) (log : Log Key) → (begun keys k log ≡ true) ↔ BeganIn keys k log
+
+-- And behind every run a segment starts its key's message, by what is heard, exactly where the table's words say so of the slots as they are then: so no message begun in
+-- a run is passed over, also none that restarts a slot which was open before it, and a number 0 that goes on begins none.
+abbrev pub StartsHeard : Type 0
+StartsHeard = (c : Collector) (area : List ℕ) → Passes c → length area ≡ 65536 → (run : Run) (e : End) → Called (length (heldOf (c .receiver))) c area run e
+    → (g : Segment Key) → (starting keys g (heardFrom c run (e .reports)) ≡ true) ↔ Starts keys g (boxed (e .slots) (e .area))
+
+-- the same by the history that MessagesWhole reads off a recording, behind any part of it
+abbrev pub StartsRecorded : Type 0
+StartsRecorded = (c : Collector) (area : List ℕ) → Passes c → length area ≡ 65536 → (all run : Run) (g : Segment Key)
+    → (let t = readFrom (c .receiver) (wire all) in
+    let p = length (heldOf (c .receiver)) in
+    let e = walk (rules keys (bacnet (c .edition))) t p (slotsOf c) area run in
+    (starting keys g (history keys (bacnet (c .edition)) t p (slotsOf c) area run) ≡ true) ↔ Starts keys g (boxed (e .slots) (e .area)))
 
 -- every run can be offered by the exported calls too, so neither sentence over octets is empty
 abbrev pub CanBeLinked : Type 0

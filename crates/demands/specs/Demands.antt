@@ -254,7 +254,7 @@ abbrev pub FeedDoes : Type 0
 FeedDoes = (c : Collector) (piece report area : List ℕ) (r : Fed) (report′ area′ : List ℕ) → Feeds c report area piece r report′ area′ → r .refused ≡ 0
     → FeedChanges c report area (feedOf (c .receiver) piece) r report′ area′
 
--- a segment: 50 to 53 change nothing, 54 and 55 free its key's slot and lay nothing, an accepted one lays its octets at its place of its slot and nowhere else
+-- a segment: 50 to 53 change nothing, 54 alone frees its key's slot and lays nothing, an accepted one lays its octets at its place of its slot and nowhere else
 abbrev pub SegmentDoes : Type 0
 SegmentDoes = (g : Segment Key) (b : Box Key) → let d = rebuild keys g b in SegmentChanges g b (d .answer) (d .box .slots) (d .box .area)
 
@@ -389,7 +389,7 @@ ServicesSwallow =
 -- ---- DEMAND 3. "From one state that refusal 59 passes and one message area, fix one run of trunk octets with silences and forget orders at fixed places. Cut the
 -- octets anywhere, offer the rest again after each report, lend areas of the right sizes that nobody else writes. Then reports, final state and message area are
 -- those that a reading of the whole recording by position gives. Each message begun and completed in the run is its key's accepted segments since its latest
--- segment 0, joined in number order."
+-- starting segment 0, joined in order of acceptance."
 
 -- the first sentence: from a state that 59 passes and an area of 65,536 octets, however the run is offered, each call giving any answer that its promise
 -- allows, the reports with their places, the last state and the message area are the reading's by the rules of the start state's edition, and the last state is of
@@ -409,8 +409,9 @@ abbrev pub ReachedPasses : Type 0
 ReachedPasses = (c : Collector) (area : List ℕ) → Passes c → length area ≡ 65536 → (p : ℕ) (run : Run) (e : End) → Called p c area run e
     → Sound (e .state .1) × (passing (e .slots) ≡ true) × (length (e .area) ≡ 65536)
 
--- the second sentence, at the place where a message's last segment ends: its slot's octets are the accepted segments of its key since the latest segment 0,
--- in number order, and the length is theirs. The history is read off the recording; a completed message with bad tags is completed too.
+-- the second sentence, at the place where a message's last segment ends: its slot's octets are the accepted segments of its key since the latest starting segment
+-- 0, in the order in which they were accepted, their numbers 0, 1, .., 255, 0, 1, .., and the length is theirs. The history is read off the recording; a completed
+-- message with bad tags is completed too. StartsRecorded says which segment starts, BegunExactly when a message was begun.
 abbrev pub MessagesWhole : Type 0
 MessagesWhole = (c : Collector) (area : List ℕ) → Passes c → length area ≡ 65536 → (all front : Run) (e : Event) (o : Out) (g : Segment Key)
     → (let t = readFrom (c .receiver) (wire all) in

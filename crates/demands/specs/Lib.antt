@@ -11,6 +11,8 @@ pub mod NetworkRows
 pub mod StateOctets
 pub mod Completed
 pub mod Keys
+pub mod Longer
+pub mod LongerWorked
 pub mod Damage
 pub mod Exported
 pub mod ReportsWorked

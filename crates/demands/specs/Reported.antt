@@ -183,7 +183,7 @@ SegmentIs = (e : Edition) (h d : List ℕ) (g : Segment Key) → (segmentAt e (g
 
 -- ---- its report o, from the answer w of rebuilding and the message area behind it; SegmentRows says which answer. "Slot s owns message area octets 16384 s .."
 pub data SegmentReport (h a : List ℕ) (g : Segment Key) (w : Answer) (area o : List ℕ) : Type 0 where
-  -- 6 with 50 to 55
+  -- 6 with 50 to 54
   not-taken : (x : ℕ) → w ≡ refused x → o ≡ kind6 h x → SegmentReport h a g w area o
   -- 4 and 5: slot i, n octets; octet 5 is of the frame that caused the report
   held : (i n : ℕ) → w ≡ taken i n → o ≡ kind4 h (oct a 0) (g .key .invoke) (g .choice) i n → SegmentReport h a g w area o

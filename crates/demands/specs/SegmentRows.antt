@@ -1,4 +1,4 @@
--- DEMAND 1, the numbers of segments: "Bad input gets the refusal number that document 01 fixes". Each of 51, 52, 53, 55, 54 and 50 exactly when the table says
+-- DEMAND 1, the numbers of segments: "Bad input gets the refusal number that document 01 fixes". Each of 51, 52, 53, 54 and 50 exactly when the table says
 -- so of the slots that are open.
 use Prim.Native.Nat.{ℕ, _<_}
 use mathlib.Core.Path.{_≡_}
@@ -66,7 +66,7 @@ sixth = keyOf 37 38 3 39
 abbrev pub seventh : Key
 seventh = keyOf 40 41 0 42
 
--- slot 0 three octets short of full, slot 2 awaiting its last number, the others free
+-- slot 0 three octets short of full, slot 2 awaiting 255, the others free
 abbrev pub workedSlots : List (Slot Key)
 workedSlots =
     record { used = true; key = first; next = 21; choice = 14; held = 16381 } ∷ empty keys ∷ record { used = true; key = second; next = 255; choice = 18; held = 19 } ∷ empty keys ∷ []
@@ -79,6 +79,10 @@ workedSegments =
     ∷ segment first 21 true 14 3
     ∷ segment first 22 true 14 1
     ∷ segment second 255 true 18 44
+    ∷ segment second 0 true 30 5
+    ∷ segment second 0 true 18 5
+    ∷ segment second 0 true 58 8
+    ∷ segment second 1 false 58 2
     ∷ segment third 0 true 26 2
     ∷ segment fourth 0 true 45 6
     ∷ segment fifth 0 true 46 9
@@ -89,42 +93,46 @@ workedSegments =
     ∷ segment seventh 0 true 48 8
     ∷ []
 
--- not open; not the next number; another choice; 16,384 octets are held and one more is too many; number 255 with MOR; four keys start and a fifth finds no slot;
--- the first of them completes; number 0 restarts the second in its slot, with another choice; the fifth goes to the lowest free slot
+-- not open; not the next number; another choice; 16,384 octets are held and one more is too many; behind 255 number 0 goes on, but not with another choice; the
+-- next 0 restarts in the slot, with another choice, and 1 completes; four keys start and a fifth finds no slot; the first of them completes; number 0 restarts the
+-- second in its slot, with another choice; the fifth goes to the lowest free slot
 abbrev pub SegmentsWorked : Type 0
 SegmentsWorked = (area : List ℕ) → answersTo (boxed workedSlots area) workedSegments
-    ≡ refused 51 ∷ refused 52 ∷ refused 53 ∷ taken 0 16384 ∷ refused 54 ∷ refused 55 ∷ taken 0 2 ∷ taken 1 6 ∷ taken 2 9 ∷ taken 3 7 ∷ refused 50 ∷ completed 0 5 ∷ completed 1 4 ∷ taken 0 8 ∷ []
+    ≡ refused 51 ∷ refused 52 ∷ refused 53 ∷ taken 0 16384 ∷ refused 54 ∷ taken 2 63 ∷ refused 53 ∷ taken 2 68 ∷ taken 2 8 ∷ completed 2 10 ∷ taken 0 2 ∷ taken 1 6 ∷ taken 2 9 ∷ taken 3 7 ∷ refused 50 ∷ completed 0 5 ∷ completed 1 4 ∷ taken 0 8 ∷ []
 
--- ---- worked: segments in which two rows' words hold, "by row order"
+-- ---- worked: segments that break several rules, "by row order", and some that break none
 -- the answers to segments, each from the same slots
 abbrev pub answersEach : Box Key → List (Segment Key) → List Answer
 answersEach b [] = []
 answersEach b (g ∷ gs) = rebuild keys g b .answer ∷ answersEach b gs
 
--- every slot open; slot 0 is four octets short of full, slot 1 three, and awaits its last number
+-- every slot open; slot 0 is four octets short of full, slot 1 three, and awaits 0 behind 255
 abbrev pub fullSlots : List (Slot Key)
 fullSlots =
     record { used = true; key = first; next = 21; choice = 14; held = 16380 }
-    ∷ record { used = true; key = second; next = 255; choice = 18; held = 16381 }
+    ∷ record { used = true; key = second; next = 0; choice = 18; held = 16381 }
     ∷ record { used = true; key = fourth; next = 51; choice = 52; held = 53 }
     ∷ record { used = true; key = sixth; next = 54; choice = 55; held = 56 }
     ∷ []
 
-abbrev pub twoFaults : List (Segment Key)
-twoFaults =
-    segment third 255 true 26 10
+abbrev pub rulesMeet : List (Segment Key)
+rulesMeet =
+    segment third 255 true 26 16385
     ∷ segment first 28 true 30 1
-    ∷ segment first 255 true 14 2
     ∷ segment first 28 true 14 20
-    ∷ segment second 255 true 57 3
+    ∷ segment second 1 true 57 4
     ∷ segment first 21 true 30 43
-    ∷ segment second 255 true 18 4
+    ∷ segment second 0 true 57 4
+    ∷ segment second 0 true 18 4
+    ∷ segment second 0 true 18 3
+    ∷ segment first 0 true 30 16384
     ∷ segment third 0 true 26 16385
     ∷ segment third 0 true 26 16384
     ∷ []
 
--- not open, 51, and 255 with MOR; not the next number, 52, and another choice, or 255 with MOR, or too many octets; another choice, 53, and 255 with MOR, or too
--- many octets; 255 with MOR, 55, and too many octets; too many octets, 54, and no slot free, which alone is 50
+-- not open, 51, and too many octets; not the next number, 52, and another choice, or too many octets, or both, also where 0 is the next; another choice, 53, and
+-- too many octets, also of a number 0 that goes on; of such a 0 too many octets, 54, where a restart would fit, and none too many; a restart in its slot, with another
+-- choice and no slot free; too many octets, 54, and no slot free, which alone is 50
 abbrev pub SegmentsInOrder : Type 0
-SegmentsInOrder = (area : List ℕ) → answersEach (boxed fullSlots area) twoFaults
-    ≡ refused 51 ∷ refused 52 ∷ refused 52 ∷ refused 52 ∷ refused 53 ∷ refused 53 ∷ refused 55 ∷ refused 54 ∷ refused 50 ∷ []
+SegmentsInOrder = (area : List ℕ) → answersEach (boxed fullSlots area) rulesMeet
+    ≡ refused 51 ∷ refused 52 ∷ refused 52 ∷ refused 52 ∷ refused 53 ∷ refused 53 ∷ refused 54 ∷ taken 1 16384 ∷ taken 0 16384 ∷ refused 54 ∷ refused 50 ∷ []

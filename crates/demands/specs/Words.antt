@@ -1,5 +1,5 @@
 -- The words in which the demands are said: one answer, the numbers of a call, what 59 names, what a call changes.
-use Prim.Native.Nat.{ℕ, _+_, _*_, _≤_, _<_}
+use Prim.Native.Nat.{ℕ, _+_, _*_, _%_, _≤_, _<_}
 use mathlib.Core.Path.{_≡_}
 use mathlib.Core.Logic.{_↔_, _⊎_}
 use mathlib.Core.Bool.{Bool, true, false}
@@ -21,7 +21,7 @@ use Rattle.npdu.specs.declared.Npdu.{Npdu}
 use Rattle.trunk.specs.Reading.{Out}
 use Rattle.trunk.specs.Demand.{outOf}
 use Rattle.messages.specs.Slots.{Segment, Slot, Box, boxed, room, empty, slotAt, slotOf}
-use Rattle.messages.specs.Rows.{Answer, before, awaiting, freeAt, rebuild}
+use Rattle.messages.specs.Rows.{Answer, before, freeAt, rebuild}
 use Rattle.messages.specs.Rows.Answer.{refused, taken, completed}
 use Rattle.rebuild.specs.View.{keys}
 use Rattle.rebuild.specs.declared.Key.{Key}
@@ -102,10 +102,10 @@ pub record WritesBy (f : ℕ) (o area : List ℕ) (r : Written) (later : List �
   pub fine : f ≡ 0 → length o ≤ length area → (r ≡ Wrote (length o)) × (later ≡ o ++ drop (length o) area)
 
 -- ---- what a segment changes, by its answer: from the slots and the area of b to these
--- 50 to 53 change nothing; 54 and 55 free the key's slot, where it has one, and leave the area
+-- 50 to 53 change nothing; 54 alone frees the key's slot, where it has one, and leaves the area
 abbrev pub SegmentRefused : Segment Key → Box Key → ℕ → List (Slot Key) → List ℕ → Type 0
 SegmentRefused g b n slots area =
-    (area ≡ b .area) × ((Between 50 53 n × (slots ≡ b .slots)) ⊎ (Between 54 55 n × (slots ≡ freeAt keys (slotOf keys (g .key) (b .slots)) (b .slots))))
+    (area ≡ b .area) × ((Between 50 53 n × (slots ≡ b .slots)) ⊎ ((n ≡ 54) × (slots ≡ freeAt keys (slotOf keys (g .key) (b .slots)) (b .slots))))
 
 -- "segments' parameters are laid end to end from its first": the octets in front of a segment's in slot i, none where it starts or restarts a message
 abbrev pub inFront : Segment Key → Box Key → ℕ → ℕ
@@ -119,9 +119,13 @@ pub record SegmentLaid (g : Segment Key) (b : Box Key) (i n : ℕ) (record′ : 
   pub laid : area ≡ splice (b .area) (room * i + inFront g b i) (g .octets)
   pub records : slots ≡ set (b .slots) i record′
 
+-- the record while more segments are to come: n octets are held, and the next number is the one after this segment's, 0 after 255
+abbrev pub waits : Segment Key → ℕ → Slot Key
+waits g n = record { used = true; key = g .key; next = (g .number + 1) % 256; choice = g .choice; held = n }
+
 abbrev pub SegmentChanges : Segment Key → Box Key → Answer → List (Slot Key) → List ℕ → Type 0
 SegmentChanges g b (refused n) slots area = SegmentRefused g b n slots area
-SegmentChanges g b (taken i n) slots area = SegmentLaid g b i n (awaiting keys g n) slots area
+SegmentChanges g b (taken i n) slots area = SegmentLaid g b i n (waits g n) slots area
 SegmentChanges g b (completed i n) slots area = SegmentLaid g b i n (empty keys) slots area
 
 -- ---- a refused piece: nothing eaten, nothing changed; a refused silence

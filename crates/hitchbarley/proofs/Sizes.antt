@@ -64,7 +64,7 @@ sized-free i s q = pick-case Sized (slotAt keys s i .used) (freed s i q) q
 -- ---- a segment, and whatever ends on the trunk
 sized-step : (g : Segment Key) (b : Box Key) → Sevens (g .key) → Sized (b .slots) → (d : Done Key) → Step keys g b d → Sized (d .box .slots)
 sized-step g b k q d (stays m) = q
-sized-step g b k q d (frees m i f l e) = freed (b .slots) i q
+sized-step g b k q d (frees i l e) = freed (b .slots) i q
 sized-step g b k q d (took i n P) =
     pick-case (λ (d : Done Key). Sized (d .box .slots)) (g .mor) (sized-set (b .slots) i (awaiting keys g _) k q) (freed (b .slots) i q)
 

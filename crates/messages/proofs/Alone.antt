@@ -13,7 +13,7 @@ use borrow.Author.Tests.{eqb-true, eqb-false, ltb-false}
 use Rattle.octets.specs.Choice.{pick, both, non, by-test, pick-case, both-left, both-right}
 use Rattle.octets.specs.Splice.{splice}
 use Rattle.messages.specs.Slots.{room, part, Keys, KeyLaws, Segment, Slot, Box, lowest, orElse, isSome, empty, slotAt, openTo, isFree, slotOf}
-use Rattle.messages.specs.Rows.{Done, startsAt, nextNumber, spent, starts, startsIn, kept, lost, awaiting, recordAt, settle, settled, rows, rebuild, forget}
+use Rattle.messages.specs.Rows.{Done, startsAt, nextNumber, starts, startsIn, kept, lost, awaiting, recordAt, settle, settled, rows, rebuild, forget}
 use Rattle.messages.specs.Sound.{Good}
 use Rattle.messages.specs.Alone.{Open, Reply, Gone, gone, viewAt, view, crowded, replyOf, alone, Own, isAt, own, replies, single, noFifty}
 use Rattle.messages.specs.Alone.Reply.{refuses, takes, gives}
@@ -83,7 +83,7 @@ module _ {Key : Type 0} (K : Keys Key) (L : KeyLaws K) where
 
     view-by : (d : Done Key) → Step K g b d → view K k (d .box) ≡ view K k b
     view-by d (stays m) = refl
-    view-by d (frees m i f l q) = set-view i l (λ u. q) (empty K) (λ z. never z) (b .area) (λ j m ne c small. refl)
+    view-by d (frees i l q) = set-view i l (λ u. q) (empty K) (λ z. never z) (b .area) (λ j m ne c small. refl)
     view-by d (took i n P) =
         let stay : (j : ℕ) → j < length (b .slots) → (j ≡ i → ⊥) → (c : ℕ) → c ≤ room → part (room * j) c (splice (b .area) (room * i + n) (g .octets)) ≡ part (room * j) c (b .area) =
         λ j m ne c small. elsewhere K g b G i n j P m ne c small in
@@ -144,7 +144,7 @@ module _ {Key : Type 0} (K : Keys Key) (L : KeyLaws K) where
     go none e =
         let same : (m : ℕ) → Agrees (kept m b) (gone (refuses m) none) = λ m. record { reply = refl; left = rw e } in
         by-test (starts K g none (empty K))
-        (λ z. rw z (agree-case (spent (g .number) (g .mor)) (same 55) (fit none 0 [] refl _ (same 54) (λ f. fresh e (starts-by K L g b G none e ∙ z) f (lowest (isFree K) (b .slots)) refl))))
+        (λ z. rw z (fit none 0 [] refl _ (same 54) (λ f. fresh e (starts-by K L g b G none e ∙ z) f (lowest (isFree K) (b .slots)) refl)))
         (λ z. rw z (same 51))
     go (some i) e =
         let F = found K L g b G i e in
@@ -155,14 +155,13 @@ module _ {Key : Type 0} (K : Keys Key) (L : KeyLaws K) where
         let small = G .holds i inside in
         let held : length xs ≡ t .held = length-take-le (t .held) (drop (room * i) (b .area)) (simp length-drop (omega arith)) in
         let same : (m : ℕ) → Agrees (kept m b) (gone (refuses m) (viewAt K b (some i))) = λ m. record { reply = refl; left = rw e } in
-        let away : (m : ℕ) → Agrees (lost K m (some i) b) (gone (refuses m) none) = λ m. record { reply = refl; left = rw (lose-set (b .slots) i (g .key) inside (F .sole)) } in
+        let away : Agrees (lost K 54 (some i) b) (gone (refuses 54) none) = record { reply = refl; left = rw (lose-set (b .slots) i (g .key) inside (F .sole)) } in
         let anew = starts-by K L g b G (some i) e in
         by-test (starts K g (some i) t)
-        (λ z. rw z (agree-case (spent (g .number) (g .mor)) (away 55) (fit (some i) 0 [] refl _ (away 54) (λ f. settle-view i 0 [] (restarts K L g b G i F (anew ∙ z) f) refl refl))))
+        (λ z. rw z (fit (some i) 0 [] refl _ away (λ f. settle-view i 0 [] (restarts K L g b G i F (anew ∙ z) f) refl refl)))
         (λ z. rw z (by-test (eqb (g .number) (t .next))
         (λ n. rw n (agree-case (non (eqb (g .choice) (t .choice))) (same 53)
-        (agree-case (spent (g .number) (g .mor)) (away 55)
-        (fit (some i) (t .held) xs held _ (away 54) (λ f. settle-view i (t .held) xs (goes-on K L g b G i F (anew ∙ z) n f) refl held)))))
+        (fit (some i) (t .held) xs held _ away (λ f. settle-view i (t .held) xs (goes-on K L g b G i F (anew ∙ z) n f) refl held))))
         (λ n. rw n (same 52))))
 
     -- a segment's answer, apart from the slot's number, and what its key has open after it, hang on what the key had open, and on whether a slot is free
@@ -176,11 +175,9 @@ alone-free g (some v) full h = refl
 alone-free g none false h = refl
 alone-free g none true h =
     by-test (startsAt (g .number) false 0)
-    (λ z. by-test (spent (g .number) (g .mor))
-    (λ f. rw (z, f))
-    (λ f. by-test (ltb room (length (g .octets)))
-    (λ r. rw (z, f, r))
-    (λ r. absurd (h (rw (z, f, r))))))
+    (λ z. by-test (ltb room (length (g .octets)))
+    (λ r. rw (z, r))
+    (λ r. absurd (h (rw (z, r)))))
     (λ z. rw z)
 
 module _ {Key : Type 0} (K : Keys Key) (L : KeyLaws K) (k : Key) where

@@ -1,9 +1,9 @@
--- A completed message is its key's accepted segments since the latest segment 0, joined.
-use mathlib.Core.Path.{_≡_, refl, sym, ap, _∙_}
+-- A completed message is its key's accepted segments since the latest starting segment 0, joined.
+use mathlib.Core.Path.{_≡_, refl, sym, ap, ap₂, _∙_}
 use mathlib.Core.Bool.{true, false}
 use mathlib.Core.List.{List, [], _∷_, _++_, append-assoc, append-nil}
 use mathlib.Core.Logic.{_⊎_, inl, inr}
-use Prim.Native.Nat.{ℕ, zero, suc, _+_, _*_, _<_}
+use Prim.Native.Nat.{ℕ, _+_, _*_, _%_, _<_}
 use native.Mathlib.Numerals.{add-one}
 use native.Mathlib.Omega.{arith}
 use lib.ListN.{length, set, drop, length-set, length-append, length-drop}
@@ -14,12 +14,12 @@ use Rattle.messages.specs.Slots.{room, part, Keys, KeyLaws, Segment, Slo
 use Rattle.messages.specs.Rows.{Answer, Done, nextNumber, awaiting, rebuild, forget}
 use Rattle.messages.specs.Rows.Answer.{refused, taken, completed}
 use Rattle.messages.specs.Sound.{Good}
-use Rattle.messages.specs.History.{Deed, Log, accepted, of, starting, standing, begun, since, joined, numbers, below, Rebuilt, Past, past, after, runs, fromStart}
+use Rattle.messages.specs.History.{Deed, Log, accepted, of, starting, standing, begun, since, joined, numbers, sequence, Rebuilt, Past, past, after, runs, fromStart}
 use Rattle.messages.specs.History.Deed.{segment, forgetting}
 use Rattle.messages.specs.History.Entry.{said, dropped}
 use Rattle.messages.proofs.Tests.{never}
 use Rattle.messages.proofs.Area.{part-grown}
-use Rattle.messages.proofs.Starts.{starts-zero}
+use Rattle.messages.proofs.Starts.{starts-zero, next-counts}
 use Rattle.messages.proofs.Step.{Begins, Follows, Place, Step, stepped, Seen, seen, fits, elsewhere, there, good-rebuild, good-forget}
 use Rattle.messages.proofs.Step.Step.{stays, frees, took}
 use Rattle.messages.proofs.Recall.{Recalls, starting-starts, recalls-start, recalls-segment, recalls-forget}
@@ -32,23 +32,22 @@ numbers-append : {Key : Type 0} (gs : List (Segment Key)) (g : Segment Key) → 
 numbers-append [] g = refl
 numbers-append (h ∷ gs) g = ap (λ (l : List ℕ). h .number ∷ l) (numbers-append gs g)
 
-length-numbers : {Key : Type 0} (gs : List (Segment Key)) → length (numbers gs) ≡ length gs
-length-numbers [] = refl
-length-numbers (g ∷ gs) = ap suc (length-numbers gs)
+-- segments and one more
+length-more : {Key : Type 0} (gs : List (Segment Key)) (g : Segment Key) → length (gs ++ (g ∷ [])) ≡ length gs + 1
+length-more gs g = length-append gs (g ∷ [])
 
-length-below : (n : ℕ) → length (below n) ≡ n
-length-below zero = refl
-length-below (suc n) = rw (length-append, length-below n) (add-one n)
+sequence-more : {Key : Type 0} (gs : List (Segment Key)) (g : Segment Key) → numbers gs ≡ sequence (length gs) → g .number ≡ length gs % 256
+    → numbers (gs ++ (g ∷ [])) ≡ sequence (length (gs ++ (g ∷ [])))
+sequence-more gs g old n =
+    numbers-append gs g
+    ∙ ap₂ (λ (l : List ℕ) (k : ℕ). l ++ (k ∷ [])) old n
+    ∙ sym (ap sequence (length-more gs g ∙ add-one (length gs)))
 
--- the number after n is the next of them
-below-next : (n : ℕ) → below (nextNumber n) ≡ below n ++ (n ∷ [])
-unfolding nextNumber
-below-next n = rw (add-one n)
-
--- octets are the message of a key so far, its numbers are 0, 1, .., and n comes next
+-- octets are the message of a key so far, its numbers are 0, 1, .., 255, 0, 1, .., and n comes next
 pub record Whole {Key : Type 0} (K : Keys Key) (k : Key) (log : Log Key) (xs : List ℕ) (n : ℕ) : Type 0 where
   pub octets : xs ≡ joined (since K k log)
-  pub order : numbers (since K k log) ≡ below n
+  pub order : numbers (since K k log) ≡ sequence (length (since K k log))
+  pub next : n ≡ length (since K k log) % 256
 
 module _ {Key : Type 0} (K : Keys Key) where
   -- the slot's message, so far as it was begun in the history, is what the slot holds
@@ -63,7 +62,7 @@ module _ {Key : Type 0} (K : Keys Key) where
       → begun K k (said g w ∷ log) ≡ true → Whole K k (said g w ∷ log) xs n
   carry log k g w xs n off f bg =
       let m = f (rw off at bg) in
-      record { octets = rw off (m .octets); order = rw off (m .order) }
+      record { octets = rw off (m .octets); order = rw off (m .order); next = rw off (m .next) }
 
   tells-none : (log : Log Key) (j : ℕ) (a : List ℕ) → Tells log (empty K) j a
   tells-none log j a u bg = never u
@@ -93,7 +92,8 @@ module _ {Key : Type 0} (K : Keys Key) where
             let z : g .number ≡ 0 = starts-zero (g .number) _ _ anew in
             record {
               octets = rw (ok, L .self (g .key), anew) (laid ∙ rw (h .none-before) (sym (append-nil (g .octets))));
-              order = rw (ok, L .self (g .key), anew) (rw (below-next (g .number), z));
+              order = rw (ok, L .self (g .key), anew) (ap (λ (k : ℕ). k ∷ []) z);
+              next = rw (ok, L .self (g .key), anew) (next-counts 0 (g .number) z);
             }
         by (inr h) =
             let later : starting K g log ≡ false = starting-starts K log g b R ∙ h .later in
@@ -101,10 +101,12 @@ module _ {Key : Type 0} (K : Keys Key) where
             let was = T i (P .inside) (h .used) (rw (h .mine) old) in
             let octs : part (room * i) n (b .area) ≡ joined (since K (g .key) log) =
             ap (λ (k : ℕ). part (room * i) k (b .area)) (h .held) ∙ was .octets ∙ ap (λ (k : Key). joined (since K k log)) (h .mine) in
-            let ords : numbers (since K (g .key) log) ≡ below (g .number) = ap (λ (k : Key). numbers (since K k log)) (sym (h .mine)) ∙ was .order ∙ ap below (sym (h .next)) in
+            let ords : numbers (since K (g .key) log) ≡ sequence (length (since K (g .key) log)) = rw (h .mine) at (was .order) in
+            let turn : g .number ≡ length (since K (g .key) log) % 256 = h .next ∙ was .next ∙ ap (λ (k : Key). length (since K k log) % 256) (h .mine) in
             record {
               octets = rw (ok, L .self (g .key), later) (laid ∙ ap (λ (l : List ℕ). l ++ g .octets) octs ∙ sym (joined-append (since K (g .key) log) g));
-              order = rw (ok, L .self (g .key), later) (numbers-append (since K (g .key) log) g ∙ ap (λ (l : List ℕ). l ++ (g .number ∷ [])) ords ∙ sym (below-next (g .number)));
+              order = rw (ok, L .self (g .key), later) (sequence-more (since K (g .key) log) g ords turn);
+              next = rw (ok, L .self (g .key), later) (next-counts (length (since K (g .key) log)) (g .number) turn ∙ ap (λ (k : ℕ). k % 256) (sym (length-more (since K (g .key) log) g)));
             }
 
     -- the others
@@ -120,7 +122,7 @@ module _ {Key : Type 0} (K : Keys Key) where
 
     told-by : (d : Done Key) → Step K g b d → Told (said g (d .answer) ∷ log) (d .box)
     told-by d (stays m) = refusal m
-    told-by d (frees m i f h q) = told-set (said g (refused m) ∷ log) b i h (empty K) (b .area) (tells-none (said g (refused m) ∷ log) i (b .area)) (λ j l ne. refusal m j l)
+    told-by d (frees i h q) = told-set (said g (refused 54) ∷ log) b i h (empty K) (b .area) (tells-none (said g (refused 54) ∷ log) i (b .area)) (λ j l ne. refusal 54 j l)
     told-by d (took i n P) =
         let total = n + length (g .octets) in
         let a = splice (b .area) (room * i + n) (g .octets) in
@@ -135,7 +137,7 @@ module _ {Key : Type 0} (K : Keys Key) where
 
     ended-by : (d : Done Key) → Step K g b d → (i n : ℕ) → Ended i n d
     ended-by d (stays m) i n = λ e bg. impossible (cc)
-    ended-by d (frees m j f h q) i n = λ e bg. impossible (cc)
+    ended-by d (frees j h q) i n = λ e bg. impossible (cc)
     ended-by d (took j m P) i n =
         pick-case (Ended i n) (g .mor)
         (λ e bg. impossible (cc))
@@ -162,7 +164,7 @@ module _ {Key : Type 0} (K : Keys Key) where
 
     -- a forget order that freed a slot says nothing of messages
     forgot : (log : Log Key) (k : Key) (t : Slot Key) (j : ℕ) (a : List ℕ) → Tells log t j a → Tells (dropped k ∷ log) t j a
-    forgot log k t j a T u bg = let w = T u bg in record { octets = w .octets; order = w .order }
+    forgot log k t j a T u bg = let w = T u bg in record { octets = w .octets; order = w .order; next = w .next }
 
     told-forget : (p : Past Key) → Told (p .log) (p .box) → (i : ℕ) → Told (after K (forgetting i) p .log) (forget K i (p .box))
     unfolding forget
@@ -200,7 +202,7 @@ module _ {Key : Type 0} (K : Keys Key) where
         sure-runs ds (past log b)
         (record { good = G; told = λ j l u bg. never (sym (begun-none (b .slots) (slotAt K (b .slots) j .key)) ∙ bg); recalls = recalls-start K (b .slots) (b .area) })
 
-    -- "Each message begun and completed in the run is its key's accepted segments since its latest segment 0, joined in number order."
+    -- "Each message begun and completed in the run is its key's accepted segments since its latest starting segment 0, joined in order of acceptance."
     pub completes : (b : Box Key) → Good K b → (ds : List (Deed Key)) (g : Segment Key) (i n : ℕ)
         → (let p = fromStart K b ds in let q = after K (segment g) p in
         rebuild K g (p .box) .answer ≡ completed i n → begun K (g .key) (q .log) ≡ true → Rebuilt K (g .key) (q .log) (q .box .area) i n)
@@ -209,6 +211,4 @@ module _ {Key : Type 0} (K : Keys Key) where
         let p = fromStart K b ds in
         let all = ended-by L g (p .box) (s .good) (p .log) (s .told) (s .recalls) (rebuild K g (p .box)) (stepped K L g (p .box) (s .good)) i n e bg in
         let w = all .0 in
-        let gs = since K (g .key) (after K (segment g) p .log) in
-        let count : nextNumber (g .number) ≡ length gs = sym (length-below (nextNumber (g .number))) ∙ sym (ap length (w .order)) ∙ length-numbers gs in
-        record { octets = w .octets; total = sym (all .1) ∙ ap length (w .octets); order = w .order ∙ ap below count }
+        record { octets = w .octets; total = sym (all .1) ∙ ap length (w .octets); order = w .order }

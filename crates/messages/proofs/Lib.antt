@@ -2,10 +2,12 @@ pub mod Tests
 pub mod Starts
 pub mod Area
 pub mod Lowest
+pub mod Keyed
 pub mod Step
 pub mod Rows
 pub mod Alone
 pub mod Recall
+pub mod Begun
 pub mod History
 pub mod Sound
 pub mod Laws

@@ -71,6 +71,14 @@ module _ {X : Type 0} (f : X → Bool) (d : X) where
       (λ t. absurd (let z : zero ≡ suc i = h zero (omega arith) t in omega arith))
       (λ t. rw (t, ih))
 
+  -- the first place where the test holds
+  pub lowest-first : (xs : List X) (i : ℕ) → i < length xs → f (getD xs i d) ≡ true → ((j : ℕ) → j < i → f (getD xs j d) ≡ false) → lowest f xs ≡ some i
+  lowest-first [] i l e h = absurd (not-suc-le-zero l)
+  lowest-first (x ∷ xs) zero l e h = rw e
+  lowest-first (x ∷ xs) (suc i) l e h =
+      let ih = lowest-first xs i (le-of-suc-le-suc l) e (λ j m. h (suc j) (omega arith)) in
+      rw (h zero (omega arith), ih)
+
   pub lowest-no : (xs : List X) → ((j : ℕ) → j < length xs → f (getD xs j d) ≡ true → ⊥) → lowest f xs ≡ none
   lowest-no [] h = refl
   lowest-no (x ∷ xs) h =

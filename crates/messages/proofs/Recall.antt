@@ -9,7 +9,7 @@ use lib.ListN.{length}
 use borrow.Author.Tests.{eqb-true, eq-eqb}
 use Rattle.octets.specs.Choice.{pick, both, non, by-test, pick-case, pick-two, both-left, both-right, not-so}
 use Rattle.messages.specs.Slots.{room, Keys, KeyLaws, Segment, Slot, Box, boxed, isSome, above, empty, slotAt, openTo, slotOf}
-use Rattle.messages.specs.Rows.{Answer, startsAt, nextNumber, spent, starts, startsIn, recordAt, rebuild, forget}
+use Rattle.messages.specs.Rows.{Answer, startsAt, nextNumber, starts, startsIn, recordAt, rebuild, forget}
 use Rattle.messages.specs.Rows.Answer.{refused, taken, completed}
 use Rattle.messages.specs.Sound.{Good}
 use Rattle.messages.specs.Alone.{Open, Reply, Gone, gone, opened, nextOf, choiceOf, octetsOf, viewAt, view, crowded, replyOf, alone, isAt}
@@ -28,7 +28,7 @@ nextIn (some v) = some (v .next)
 
 -- `leaves` by an answer without its slot
 abbrev leavesBy : ℕ → Reply → Option ℕ → Option ℕ
-leavesBy number (refuses n) was = pick (eqb n 55) none (pick (eqb n 54) none was)
+leavesBy number (refuses n) was = pick (eqb n 54) none was
 leavesBy number (takes n) was = some (nextNumber number)
 leavesBy number (gives o) was = none
 
@@ -51,10 +51,9 @@ alone-leaves g v full =
     pick-case P (both (non anew) (non (opened v))) (at (gone (refuses 51) v) refl)
     (pick-case P (both later (non (eqb (g .number) (nextOf v)))) (at (gone (refuses 52) v) refl)
     (pick-case P (both later (non (eqb (g .choice) (choiceOf v)))) (at (gone (refuses 53) v) refl)
-    (pick-case P (spent (g .number) (g .mor)) (at (gone (refuses 55) none) refl)
     (pick-case P (ltb room (length whole)) (at (gone (refuses 54) none) refl)
     (pick-case P (both (non (opened v)) full) (at (gone (refuses 50) v) refl)
-    (pick-case P (g .mor) (at (gone (takes (length whole)) (some (record { next = nextNumber (g .number); choice = g .choice; octets = whole }))) refl) (at (gone (gives whole) none) refl)))))))
+    (pick-case P (g .mor) (at (gone (takes (length whole)) (some (record { next = nextNumber (g .number); choice = g .choice; octets = whole }))) refl) (at (gone (gives whole) none) refl))))))
 
 module _ {Key : Type 0} (K : Keys Key) where
   -- the history and the slots agree on every key
@@ -65,6 +64,10 @@ module _ {Key : Type 0} (K : Keys Key) where
       → startsAt (g .number) (isSome (nextIn (viewAt K b o))) (orZero (nextIn (viewAt K b o))) ≡ starts K g o (recordAt K (b .slots) o)
   by-slot g b none = refl
   by-slot g b (some i) = refl
+
+  -- a segment starts alike by two histories that await the same
+  pub starting-by : (a c : Log Key) (g : Segment Key) → awaited K (g .key) a ≡ awaited K (g .key) c → starting K g a ≡ starting K g c
+  starting-by a c g e = ap (λ (x : Option ℕ). startsAt (g .number) (isSome x) (orZero x)) e
 
   pub starting-starts : (log : Log Key) (g : Segment Key) (b : Box Key) → Recalls log b → starting K g log ≡ startsIn K g b
   starting-starts log g b R = ap (λ (x : Option ℕ). startsAt (g .number) (isSome x) (orZero x)) (R (g .key)) ∙ by-slot g b (slotOf K (g .key) (b .slots))

@@ -1,5 +1,5 @@
 -- The rows one at a time, as code follows them: by the slot of the key, by each test in its order, by MOR.
-use mathlib.Core.Path.{_≡_, ap, _∙_}
+use mathlib.Core.Path.{_≡_, ap}
 use mathlib.Core.Bool.{true, false}
 use mathlib.Core.Option.{Option, none, some}
 use Prim.Native.Nat.{ℕ, _+_, _*_}
@@ -8,7 +8,7 @@ use lib.ListN.{length, set}
 use Rattle.octets.specs.Choice.{pick-false, pick-true}
 use Rattle.octets.specs.Splice.{splice}
 use Rattle.messages.specs.Slots.{room, Keys, Segment, Slot, Box, lowest, orElse, empty, slotAt, isFree, slotOf}
-use Rattle.messages.specs.Rows.{starts, spent, done, kept, lost, awaiting, recordAt, settle, settled, fitted, rows, rebuild}
+use Rattle.messages.specs.Rows.{starts, done, kept, lost, awaiting, recordAt, settle, settled, fitted, rows, rebuild}
 use Rattle.messages.specs.Rows.Answer.{taken, completed}
 
 module _ {Key : Type 0} (K : Keys Key) (g : Segment Key) (b : Box Key) where
@@ -41,16 +41,13 @@ module _ {Key : Type 0} (K : Keys Key) (g : Segment Key) (b : Box Key) where
     pub open-on : starts K g (some i) t ≡ false → eqb (g .number) (t .next) ≡ true → eqb (g .choice) (t .choice) ≡ true → rows K g (some i) t b ≡ fitted K g (some i) (t .held) b
     open-on z n c = rw (z, n, c)
 
-  -- 55, 54 and what comes behind them
+  -- 54 and what comes behind it
   module _ (o : Option ℕ) (n : ℕ) where
-    pub fitted-55 : spent (g .number) (g .mor) ≡ true → fitted K g o n b ≡ lost K 55 o b
-    fitted-55 e = pick-true (spent (g .number) (g .mor)) _ _ e
+    pub fitted-54 : ltb room (n + length (g .octets)) ≡ true → fitted K g o n b ≡ lost K 54 o b
+    fitted-54 r = pick-true (ltb room (n + length (g .octets))) _ _ r
 
-    pub fitted-54 : spent (g .number) (g .mor) ≡ false → ltb room (n + length (g .octets)) ≡ true → fitted K g o n b ≡ lost K 54 o b
-    fitted-54 e r = pick-false (spent (g .number) (g .mor)) _ _ e ∙ pick-true (ltb room (n + length (g .octets))) _ _ r
-
-    pub fitted-on : spent (g .number) (g .mor) ≡ false → ltb room (n + length (g .octets)) ≡ false → fitted K g o n b ≡ settled K g (orElse o (lowest (isFree K) (b .slots))) n b
-    fitted-on e r = pick-false (spent (g .number) (g .mor)) _ _ e ∙ pick-false (ltb room (n + length (g .octets))) _ _ r
+    pub fitted-on : ltb room (n + length (g .octets)) ≡ false → fitted K g o n b ≡ settled K g (orElse o (lowest (isFree K) (b .slots))) n b
+    fitted-on r = pick-false (ltb room (n + length (g .octets))) _ _ r
 
   -- by MOR
   module _ (i n : ℕ) where

@@ -132,7 +132,7 @@ module _ {Key : Type 0} (K : Keys Key) (L : KeyLaws K) where
   -- there are as many slots as before
   count-by : (g : Segment Key) (b : Box Key) (d : Done Key) → Step K g b d → length (d .box .slots) ≡ length (b .slots)
   count-by g b d (stays m) = refl
-  count-by g b d (frees m i f l q) = length-set (b .slots) i (empty K)
+  count-by g b d (frees i l q) = length-set (b .slots) i (empty K)
   count-by g b d (took i n P) = pick-case (λ (d : Done Key). length (d .box .slots) ≡ length (b .slots)) (g .mor) (length-set (b .slots) i _) (length-set (b .slots) i (empty K))
 
   counted : (n : ℕ) (s : List (Slot Key)) → passes K n s ≡ true → length s ≡ n
@@ -154,7 +154,7 @@ module _ {Key : Type 0} (K : Keys Key) (L : KeyLaws K) where
 
   known-step : (g : Segment Key) (b : Box Key) → K .given (g .key) ≡ true → Known K (b .slots) → (d : Done Key) → Step K g b d → Known K (d .box .slots)
   known-step g b k N d (stays m) = N
-  known-step g b k N d (frees m i f l q) = known-set (b .slots) i (empty K) l N free-known
+  known-step g b k N d (frees i l q) = known-set (b .slots) i (empty K) l N free-known
   known-step g b k N d (took i n P) =
       pick-case (λ (d : Done Key). Known K (d .box .slots)) (g .mor)
       (known-set (b .slots) i (awaiting K g (n + length (g .octets))) (P .inside) N (rw k)) (known-set (b .slots) i (empty K) (P .inside) N free-known)

@@ -10,14 +10,15 @@ use lib.Dec.{eqb, ltb}
 use lib.ListN.{length, set, length-set, List·getD-eq-default}
 use lib.Seq.{getD-set-same, getD-set-other}
 use borrow.Author.Tests.{eqb-true, eqb-false, ltb-true, ltb-false}
-use Rattle.octets.specs.Choice.{by-test, pick-cases, both-left, both-right}
+use Rattle.octets.specs.Choice.{by-test, pick-cases}
 use Rattle.octets.specs.Splice.{splice, splice-length}
-use Rattle.messages.specs.Slots.{room, part, Keys, KeyLaws, Segment, Slot, Box, lowest, orElse, empty, slotAt, openTo, isFree, slotOf}
-use Rattle.messages.specs.Rows.{Done, starts, startsIn, spent, kept, lost, recordAt, settle, settled, fitted, rows, rebuild, forget}
-use Rattle.messages.specs.Sound.{Good}
+use Rattle.messages.specs.Slots.{room, part, Keys, KeyLaws, Segment, Slot, Box, lowest, orElse, empty, slotAt, isFree, slotOf}
+use Rattle.messages.specs.Rows.{Done, starts, startsIn, kept, lost, recordAt, settle, settled, fitted, rows, rebuild, forget}
+use Rattle.messages.specs.Sound.{Apart, Good}
 use Rattle.messages.proofs.Tests.{never}
 use Rattle.messages.proofs.Area.{part-before, part-behind}
-use Rattle.messages.proofs.Lowest.{lowest-some, lowest-none}
+use Rattle.messages.proofs.Lowest.{lowest-some}
+use Rattle.messages.proofs.Keyed.{slot-some, slot-none}
 
 module _ {Key : Type 0} (K : Keys Key) where
   -- a segment that starts a message in slot i; a later one behind what the slot holds
@@ -39,22 +40,15 @@ module _ {Key : Type 0} (K : Keys Key) where
     pub mine : slotAt K (b .slots) i .used ≡ true → slotAt K (b .slots) i .key ≡ g .key
     pub how : Begins g b i n ⊎ Follows g b i n
 
-  -- the numbers that free the slot
-  abbrev pub Frees : ℕ → Type 0
-  Frees m = (m ≡ 55) ⊎ (m ≡ 54)
-
   pub data Step (g : Segment Key) (b : Box Key) : Done Key → Type 0 where
     stays : (m : ℕ) → Step g b (kept m b)
-    frees : (m i : ℕ) → Frees m → i < length (b .slots) → slotAt K (b .slots) i .key ≡ g .key → Step g b (lost K m (some i) b)
+    frees : (i : ℕ) → i < length (b .slots) → slotAt K (b .slots) i .key ≡ g .key → Step g b (lost K 54 (some i) b)
     took : (i n : ℕ) → Place g b i n → Step g b (settle K g i n b)
 
   module _ (L : KeyLaws K) (g : Segment Key) (b : Box Key) (G : Good K b) where
     -- the key is not open
     pub nowhere : slotOf K (g .key) (b .slots) ≡ none → (i j : ℕ) → j < length (b .slots) → slotAt K (b .slots) j .used ≡ true → slotAt K (b .slots) j .key ≡ g .key → j ≡ i
-    nowhere e i j l u k =
-        let off = lowest-none (openTo K (g .key)) (empty K) (b .slots) j e l in
-        let is : openTo K (g .key) (slotAt K (b .slots) j) ≡ true = rw (u, k) (L .self (g .key)) in
-        never (sym off ∙ is)
+    nowhere e i j l u k = absurd (slot-none K L (g .key) (b .slots) e j l u k)
 
     -- whether it starts, by the slot of its key
     pub starts-by : (o : Option ℕ) → slotOf K (g .key) (b .slots) ≡ o → startsIn K g b ≡ starts K g o (recordAt K (b .slots) o)
@@ -75,11 +69,8 @@ module _ {Key : Type 0} (K : Keys Key) where
 
     pub found : (i : ℕ) → slotOf K (g .key) (b .slots) ≡ some i → Found i
     found i e =
-        let at = lowest-some (openTo K (g .key)) (empty K) (b .slots) i e in
-        let t = slotAt K (b .slots) i in
-        let u : t .used ≡ true = both-left (t .used) _ (at .1) in
-        let k : t .key ≡ g .key = L .only (t .key) (g .key) (both-right (t .used) _ (at .1)) in
-        record { inside = at .0; used = u; mine = k; sole = λ j l uj kj. G .apart j i l (at .0) uj u (kj ∙ sym k) }
+        let at = slot-some K L (g .key) (b .slots) i e in
+        record { inside = at .0; used = at .1; mine = at .2; sole = λ j l u k. G .apart j i l (at .0) u (at .1) (k ∙ sym (at .2)) }
 
     pub restarts : (i : ℕ) → Found i → startsIn K g b ≡ true → 0 + length (g .octets) ≤ room → Place g b i 0
     restarts i F z f = record { inside = F .inside; fits = f; sole = F .sole; mine = λ u. F .mine; how = inl (record { anew = z; none-before = refl }) }
@@ -99,23 +90,21 @@ module _ {Key : Type 0} (K : Keys Key) where
     fresh e z f none q = stays 50
     fresh e z f (some i) q = took i 0 (placed e z f i q)
 
-    -- the rows 55 and 54, and what comes behind them
-    fit : (o : Option ℕ) (n : ℕ) → ((m : ℕ) → Frees m → Step g b (lost K m o b))
+    -- the row 54, and what comes behind it
+    fit : (o : Option ℕ) (n : ℕ) → Step g b (lost K 54 o b)
         → (n + length (g .octets) ≤ room → Step g b (settled K g (orElse o (lowest (isFree K) (b .slots))) n b)) → Step g b (fitted K g o n b)
     fit o n gone on =
-        pick-cases (λ (d : Done Key). Step g b d) (spent (g .number) (g .mor)) (λ t. gone 55 (inl refl)) (λ t.
-        pick-cases (λ (d : Done Key). Step g b d) (ltb room (n + length (g .octets))) (λ u. gone 54 (inr refl)) (λ u.
-        on (ltb-false room (n + length (g .octets)) u)))
+        pick-cases (λ (d : Done Key). Step g b d) (ltb room (n + length (g .octets))) (λ t. gone) (λ t. on (ltb-false room (n + length (g .octets)) t))
 
     go : (o : Option ℕ) → slotOf K (g .key) (b .slots) ≡ o → Step g b (rows K g o (recordAt K (b .slots) o) b)
     go none e =
         by-test (starts K g none (empty K))
-        (λ z. rw z (fit none 0 (λ m f. stays m) (λ f. fresh e (starts-by none e ∙ z) f (lowest (isFree K) (b .slots)) refl)))
+        (λ z. rw z (fit none 0 (stays 54) (λ f. fresh e (starts-by none e ∙ z) f (lowest (isFree K) (b .slots)) refl)))
         (λ z. rw z (stays 51))
     go (some i) e =
         let F = found i e in
         let t = slotAt K (b .slots) i in
-        let gone : (m : ℕ) → Frees m → Step g b (lost K m (some i) b) = λ m f. frees m i f (F .inside) (F .mine) in
+        let gone : Step g b (lost K 54 (some i) b) = frees i (F .inside) (F .mine) in
         by-test (starts K g (some i) t)
         (λ z. rw z (fit (some i) 0 gone (λ f. took i 0 (restarts i F (starts-by (some i) e ∙ z) f))))
         (λ z. rw z (by-test (eqb (g .number) (t .next))
@@ -138,20 +127,26 @@ module _ {Key : Type 0} (K : Keys Key) where
       (λ e. let q : j ≡ i = eqb-true j i e in inl (q, ap (slotAt K (set s i t)) q ∙ getD-set-same s i t (empty K) l))
       (λ e. let q : j ≡ i → ⊥ = eqb-false j i e in inr (q, getD-set-other s i j t (empty K) q))
 
+  -- no two open slots have one key then, where no other slot is open to its new key
+  module _ (s : List (Slot Key)) (A : Apart K s) (i : ℕ) (inside : i < length s) (t : Slot Key)
+      (sole : t .used ≡ true → (j : ℕ) → j < length s → slotAt K s j .used ≡ true → slotAt K s j .key ≡ t .key → j ≡ i) where
+    apart-seen : (p q : ℕ) → p < length s → q < length s → Seen s i t p → Seen s i t q
+        → slotAt K (set s i t) p .used ≡ true → slotAt K (set s i t) q .used ≡ true → slotAt K (set s i t) p .key ≡ slotAt K (set s i t) q .key → p ≡ q
+    apart-seen p q lp lq (inl x) (inl y) up uq e = x .0 ∙ sym (y .0)
+    apart-seen p q lp lq (inl x) (inr y) up uq e =
+        let j : q ≡ i = sole (rw (x .1) at up) q lq (rw (y .1) at uq) (sym (rw (x .1, y .1) at e)) in
+        x .0 ∙ sym j
+    apart-seen p q lp lq (inr x) (inl y) up uq e =
+        let j : p ≡ i = sole (rw (y .1) at uq) p lp (rw (x .1) at up) (rw (x .1, y .1) at e) in
+        j ∙ sym (y .0)
+    apart-seen p q lp lq (inr x) (inr y) up uq e = A p q lp lq (rw (x .1) at up) (rw (y .1) at uq) (rw (x .1, y .1) at e)
+
+    pub apart-set : Apart K (set s i t)
+    apart-set p q lp lq = let len = length-set s i t in apart-seen p q (rw len at lp) (rw len at lq) (seen s i t p inside) (seen s i t q inside)
+
   module _ (b : Box Key) (G : Good K b) (i : ℕ) (inside : i < length (b .slots)) (t : Slot Key) (a : List ℕ) (size : length a ≡ length (b .area))
       (small : t .held ≤ room)
       (sole : t .used ≡ true → (j : ℕ) → j < length (b .slots) → slotAt K (b .slots) j .used ≡ true → slotAt K (b .slots) j .key ≡ t .key → j ≡ i) where
-    apart-set : (p q : ℕ) → p < length (b .slots) → q < length (b .slots) → Seen (b .slots) i t p → Seen (b .slots) i t q
-        → slotAt K (set (b .slots) i t) p .used ≡ true → slotAt K (set (b .slots) i t) q .used ≡ true → slotAt K (set (b .slots) i t) p .key ≡ slotAt K (set (b .slots) i t) q .key → p ≡ q
-    apart-set p q lp lq (inl x) (inl y) up uq e = x .0 ∙ sym (y .0)
-    apart-set p q lp lq (inl x) (inr y) up uq e =
-        let j : q ≡ i = sole (rw (x .1) at up) q lq (rw (y .1) at uq) (sym (rw (x .1, y .1) at e)) in
-        x .0 ∙ sym j
-    apart-set p q lp lq (inr x) (inl y) up uq e =
-        let j : p ≡ i = sole (rw (y .1) at uq) p lp (rw (x .1) at up) (rw (x .1, y .1) at e) in
-        j ∙ sym (y .0)
-    apart-set p q lp lq (inr x) (inr y) up uq e = G .apart p q lp lq (rw (x .1) at up) (rw (y .1) at uq) (rw (x .1, y .1) at e)
-
     small-set : (p : ℕ) → p < length (b .slots) → Seen (b .slots) i t p → slotAt K (set (b .slots) i t) p .held ≤ room
     small-set p l (inl x) = rw (x .1) small
     small-set p l (inr x) = rw (x .1) (G .holds p l)
@@ -162,7 +157,7 @@ module _ {Key : Type 0} (K : Keys Key) where
         record {
           sized = size ∙ G .sized ∙ ap (λ (n : ℕ). room * n) (sym len);
           holds = λ p l. small-set p (rw len at l) (seen (b .slots) i t p inside);
-          apart = λ p q lp lq. apart-set p q (rw len at lp) (rw len at lq) (seen (b .slots) i t p inside) (seen (b .slots) i t q inside);
+          apart = apart-set (b .slots) (G .apart) i inside t sole;
         }
 
   -- ---- 59 passes whatever a segment or a forget order leaves
@@ -185,7 +180,7 @@ module _ {Key : Type 0} (K : Keys Key) where
 
     good-by : (d : Done Key) → Step g b d → Good K (d .box)
     good-by d (stays m) = G
-    good-by d (frees m i f l q) = good-set b G i l (empty K) (b .area) refl (omega arith) (λ z. never z)
+    good-by d (frees i l q) = good-set b G i l (empty K) (b .area) refl (omega arith) (λ z. never z)
     good-by d (took i n P) =
         let a = splice (b .area) (room * i + n) (g .octets) in
         let size : length a ≡ length (b .area) = splice-length (b .area) (room * i + n) (g .octets) (fits i n P) in

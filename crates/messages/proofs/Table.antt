@@ -3,22 +3,23 @@ use mathlib.Core.Path.{_≡_, refl, sym, ap, ap₂, subst, _∙_}
 use mathlib.Core.Bool.{true, false}
 use mathlib.Core.Option.{Option, none, some}
 use mathlib.Core.Logic.{_↔_, _⊎_, inl, inr}
-use Prim.Native.Nat.{ℕ, _+_}
+use Prim.Native.Nat.{ℕ, _+_, _<_}
 use native.Mathlib.Omega.{arith}
 use lib.Dec.{eqb, ltb}
 use lib.ListN.{length}
-use borrow.Author.Tests.{eqb-true, eqb-false, ltb-true, ltb-false}
-use Rattle.octets.specs.Choice.{by-test, pick-cases, both-left, both-right, non-true, not-so}
-use Rattle.messages.specs.Slots.{room, Keys, KeyLaws, Segment, Box, lowest, orElse, empty, slotAt, openTo, isFree, slotOf}
-use Rattle.messages.specs.Rows.{Answer, Done, spent, kept, lost, recordAt, settled, fitted, rows, rebuild}
+use borrow.Author.Tests.{eqb-true, eqb-false, eq-eqb, ltb-true, ltb-false}
+use Rattle.octets.specs.Choice.{by-test, pick-cases, non-true, not-so, impossible}
+use Rattle.messages.specs.Slots.{room, Keys, KeyLaws, Segment, Box, lowest, orElse, empty, slotAt, isFree, slotOf}
+use Rattle.messages.specs.Rows.{Answer, Done, starts, startsIn, kept, lost, recordAt, settled, fitted, rows, rebuild}
 use Rattle.messages.specs.Rows.Answer.{refused, taken, completed}
 use Rattle.messages.specs.Sound.{Apart}
-use Rattle.messages.specs.Table.{Table, First, NoRow, OpenAt, Open, NotZero, InFront, Total, Words51, Words52, Words53, Words55, Words54, Words50, table, LowestFree, Goes, Answers}
+use Rattle.messages.specs.Table.{Table, First, NoRow, OpenAt, Open, NotZero, Starts, InFront, Total, Words51, Words52, Words53, Words54, Words50, table, LowestFree, Goes, Answers}
 use Rattle.messages.specs.Table.Table.{end, row}
 use Rattle.messages.specs.Table.Answers.{refuses, takes, completes}
 use Rattle.messages.proofs.Tests.{non-false}
-use Rattle.messages.proofs.Starts.{starts-new, starts-open}
+use Rattle.messages.proofs.Starts.{starts-zero, starts-new, restarts-other, goes-on-awaited}
 use Rattle.messages.proofs.Lowest.{lowest-some, lowest-none, lowest-least}
+use Rattle.messages.proofs.Keyed.{slot-some, slot-none}
 use Rattle.messages.proofs.Rows.{new-51, new-start, open-restart, open-52, open-53, open-on}
 
 -- ---- a table gives one number or none
@@ -96,38 +97,29 @@ module _ {Key : Type 0} (K : Keys Key) (L : KeyLaws K) (g : Segment Key) (b : Bo
     total : Total K g b (n + length (g .octets))
     total = (n, front, refl)
 
-    laid : (Words55 K g b → ⊥) → (Words54 K g b → ⊥) → (x : Option ℕ) → Lands x → Told (settled K g x n b)
-    laid no5 no4 none w = keeps 50 (inr (no1, inr (no2, inr (no3, inr (no5, inr (no4, inl (w, refl)))))))
-    laid no5 no4 (some i) w =
-        let z : NoRow (table K g b) = (no1, (no2, (no3, (no5, (no4, (w .1, tt)))))) in
+    laid : (Words54 K g b → ⊥) → (x : Option ℕ) → Lands x → Told (settled K g x n b)
+    laid no4 none w = keeps 50 (inr (no1, inr (no2, inr (no3, inr (no4, inl (w, refl))))))
+    laid no4 (some i) w =
+        let z : NoRow (table K g b) = (no1, (no2, (no3, (no4, (w .1, tt))))) in
         pick-cases Told (g .mor) (λ q. takes i (n + length (g .octets)) z q (w .0) total) (λ q. completes i (n + length (g .octets)) z q (w .0) total)
 
     fit : (o : Option ℕ) → Lands (orElse o (lowest (isFree K) (b .slots))) → Told (fitted K g o n b)
     fit o w =
-        pick-cases Told (spent (g .number) (g .mor))
-        (λ s.
-        let w5 : Words55 K g b = (eqb-true (g .number) 255 (both-left _ _ s), both-right (eqb (g .number) 255) _ s) in
-        loses 55 o (inr (no1, inr (no2, inr (no3, inl (w5, refl))))))
-        (λ s.
-        let no5 : Words55 K g b → ⊥ = λ w5. let yes : spent (g .number) (g .mor) ≡ true = rw (w5 .0, w5 .1) in not-so (sym s ∙ yes) in
         pick-cases Told (ltb room (n + length (g .octets)))
-        (λ r. loses 54 o (inr (no1, inr (no2, inr (no3, inr (no5, inl ((n + length (g .octets), total, ltb-true _ _ r), refl)))))))
+        (λ r. loses 54 o (inr (no1, inr (no2, inr (no3, inl ((n + length (g .octets), total, ltb-true _ _ r), refl))))))
         (λ r.
         let no4 : Words54 K g b → ⊥ = λ w4. omega (arith, total-one (w4 .0) (n + length (g .octets)) (w4 .1) total, w4 .2, ltb-false room (n + length (g .octets)) r) in
-        laid no5 no4 (orElse o (lowest (isFree K) (b .slots))) w))
+        laid no4 (orElse o (lowest (isFree K) (b .slots))) w)
 
   -- ---- by the slot of the key
   is-open : (i : ℕ) → slotOf K (g .key) (b .slots) ≡ some i → OpenAt K g b i
   is-open i e =
-      let at = lowest-some (openTo K (g .key)) (empty K) (b .slots) i e in
-      let t = slotAt K (b .slots) i in
-      record { slot = at .0; used = both-left (t .used) _ (at .1); mine = L .only (t .key) (g .key) (both-right (t .used) _ (at .1)) }
+      let at = slot-some K L (g .key) (b .slots) i e in
+      record { slot = at .0; used = at .1; mine = at .2 }
 
   not-open : slotOf K (g .key) (b .slots) ≡ none → Open K g b → ⊥
   not-open e x =
-      let off = lowest-none (openTo K (g .key)) (empty K) (b .slots) (x .0) e (x .1 .slot) in
-      let is : openTo K (g .key) (slotAt K (b .slots) (x .0)) ≡ true = rw (x .1 .used, x .1 .mine) (L .self (g .key)) in
-      not-so (sym off ∙ is)
+      slot-none K L (g .key) (b .slots) e (x .0) (x .1 .slot) (x .1 .used) (x .1 .mine)
 
   -- number 0 of a key that is not open
   lands-new : g .number ≡ 0 → (Open K g b → ⊥) → (x : Option ℕ) → lowest (isFree K) (b .slots) ≡ x → Lands x
@@ -137,41 +129,93 @@ module _ {Key : Type 0} (K : Keys Key) (L : KeyLaws K) (g : Segment Key) (b : Bo
       let free : slotAt K (b .slots) i .used ≡ false = non-true _ (at .1) in
       (inr (shut, record { slot = at .0; free = free; below = λ j l. non-false (slotAt K (b .slots) j .used) (lowest-least (isFree K) (empty K) (b .slots) i e j l) }), λ w. not-so (sym free ∙ w .2 i (at .0)))
 
+  -- ---- whether it starts is what the words say
+  next-of : (i j : ℕ) → OpenAt K g b i → OpenAt K g b j → slotAt K (b .slots) i .next ≡ slotAt K (b .slots) j .next
+  next-of i j x y = ap (λ (k : ℕ). slotAt K (b .slots) k .next) (open-one i j x y)
+
+  anew-so : (o : Option ℕ) → slotOf K (g .key) (b .slots) ≡ o → starts K g o (recordAt K (b .slots) o) ≡ true → Starts K g b
+  anew-so none e s = (starts-zero (g .number) false 0 s, λ w. not-open e (w .0, w .1))
+  anew-so (some i) e s =
+      let t = slotAt K (b .slots) i in
+      (starts-zero (g .number) true (t .next) s, λ w. restarts-other (g .number) (t .next) s (next-of i (w .0) (is-open i e) (w .1) ∙ w .2))
+
+  anew-not : (o : Option ℕ) → slotOf K (g .key) (b .slots) ≡ o → starts K g o (recordAt K (b .slots) o) ≡ false → Starts K g b → ⊥
+  anew-not none e s w = not-so (sym s ∙ starts-new (g .number) 0 ∙ eq-eqb (g .number) 0 (w .0))
+  anew-not (some i) e s w = w .1 (i, is-open i e, goes-on-awaited (g .number) (slotAt K (b .slots) i .next) s (w .0))
+
+  pub starts-exactly : (startsIn K g b ≡ true) ↔ Starts K g b
+  starts-exactly =
+      let o = slotOf K (g .key) (b .slots) in
+      (anew-so o refl, λ w. by-test (startsIn K g b) (λ t. t) (λ t. absurd (anew-not o refl t w)))
+
+  -- ---- the answer, by the slot of the key
   by-slot : (o : Option ℕ) → slotOf K (g .key) (b .slots) ≡ o → Told (rows K g o (recordAt K (b .slots) o) b)
   by-slot none e =
       let shut = not-open e in
-      by-test (eqb (g .number) 0)
-      (λ z.
-      let n0 : g .number ≡ 0 = eqb-true (g .number) 0 z in
-      rw (new-start K g b (starts-new (g .number) 0 ∙ z))
-      (fit (λ w. w .0 n0) (λ w. shut (w .0, w .1)) (λ w. shut (w .0, w .1)) 0 (inl (n0, refl)) none (lands-new n0 shut (lowest (isFree K) (b .slots)) refl)))
-      (λ z. rw (new-51 K g b (starts-new (g .number) 0 ∙ z)) (keeps 51 (inl ((eqb-false (g .number) 0 z, shut), refl))))
+      by-test (starts K g none (empty K))
+      (λ s.
+      let yes = anew-so none e s in
+      rw (new-start K g b s)
+      (fit (λ w. w .0 (yes .0)) (λ w. shut (w .0, w .1)) (λ w. shut (w .0, w .1)) 0 (inl (yes, refl)) none (lands-new (yes .0) shut (lowest (isFree K) (b .slots)) refl)))
+      (λ s. rw (new-51 K g b s) (keeps 51 (inl ((λ z. anew-not none e s (z, λ w. shut (w .0, w .1)), shut), refl))))
   by-slot (some i) e =
       let t = slotAt K (b .slots) i in
       let is = is-open i e in
       let no1 : Words51 K g b → ⊥ = λ w. w .1 (i, is) in
       let lands : Lands (some i) = (inl is, λ w. w .1 (i, is)) in
-      by-test (eqb (g .number) 0)
-      (λ z.
-      let n0 : g .number ≡ 0 = eqb-true (g .number) 0 z in
-      rw (open-restart K g b i t (starts-open (g .number) (t .next) ∙ z)) (fit no1 (λ w. w .2 n0) (λ w. w .2 n0) 0 (inl (n0, refl)) (some i) lands))
-      (λ z.
-      let nz : NotZero K g b = eqb-false (g .number) 0 z in
-      let s = starts-open (g .number) (t .next) ∙ z in
+      by-test (starts K g (some i) t)
+      (λ s.
+      let yes = anew-so (some i) e s in
+      rw (open-restart K g b i t s) (fit no1 (λ w. w .2 (yes .0)) (λ w. w .2 yes) 0 (inl (yes, refl)) (some i) lands))
+      (λ s.
+      let no = anew-not (some i) e s in
       by-test (eqb (g .number) (t .next))
       (λ n.
-      let no2 : Words52 K g b → ⊥ = λ w. w .3 (eqb-true (g .number) (t .next) n ∙ ap (λ (k : ℕ). slotAt K (b .slots) k .next) (open-one i (w .0) is (w .1))) in
+      let no2 : Words52 K g b → ⊥ = λ w. w .3 (eqb-true (g .number) (t .next) n ∙ next-of i (w .0) is (w .1)) in
       by-test (eqb (g .choice) (t .choice))
       (λ c.
       let no3 : Words53 K g b → ⊥ = λ w. w .3 (eqb-true (g .choice) (t .choice) c ∙ ap (λ (k : ℕ). slotAt K (b .slots) k .choice) (open-one i (w .0) is (w .1))) in
-      rw (open-on K g b i t s n c) (fit no1 no2 no3 (t .held) (inr (nz, (i, is, refl))) (some i) lands))
-      (λ c. rw (open-53 K g b i t s n c) (keeps 53 (inr (no1, inr (no2, inl ((i, is, nz, eqb-false (g .choice) (t .choice) c), refl)))))))
-      (λ n. rw (open-52 K g b i t s n) (keeps 52 (inr (no1, inl ((i, is, nz, eqb-false (g .number) (t .next) n), refl))))))
+      rw (open-on K g b i t s n c) (fit no1 no2 no3 (t .held) (inr (no, (i, is, refl))) (some i) lands))
+      (λ c. rw (open-53 K g b i t s n c) (keeps 53 (inr (no1, inr (no2, inl ((i, is, no, eqb-false (g .choice) (t .choice) c), refl)))))))
+      (λ n.
+      let other : g .number ≡ t .next → ⊥ = eqb-false (g .number) (t .next) n in
+      let nz : NotZero K g b = λ z. other (z ∙ sym (goes-on-awaited (g .number) (t .next) s z)) in
+      rw (open-52 K g b i t s n) (keeps 52 (inr (no1, inl ((i, is, nz, other), refl))))))
 
   answered : Told (rebuild K g b)
   unfolding rebuild
   answered = by-slot (slotOf K (g .key) (b .slots)) refl
 
-  -- each of 51, 52, 53, 55, 54, 50 exactly when its words hold and no row before it does; taken or complete exactly when none does, by MOR
+  -- each of 51, 52, 53, 54, 50 exactly when its words hold and no row before it does; taken or complete exactly when none does, by MOR
   pub by-the-table : (w : Answer) → (rebuild K g b .answer ≡ w) ↔ Answers K g b w
   by-the-table w = (λ e. subst (Answers K g b) e answered, λ h. one (rebuild K g b .answer) w answered h)
+
+  -- ---- the slot that a segment goes to is there; if it is open it has the segment's key, and no other slot is open to that
+  pub goes-inside : (i : ℕ) → Goes K g b i → i < length (b .slots)
+  goes-inside i (inl x) = x .slot
+  goes-inside i (inr x) = x .1 .slot
+
+  pub goes-own : (i : ℕ) → Goes K g b i → slotAt K (b .slots) i .used ≡ true → slotAt K (b .slots) i .key ≡ g .key
+  goes-own i (inl x) u = x .mine
+  goes-own i (inr x) u = not-so (sym (x .1 .free) ∙ u)
+
+  pub goes-sole : (i : ℕ) → Goes K g b i → (j : ℕ) → j < length (b .slots) → slotAt K (b .slots) j .used ≡ true → slotAt K (b .slots) j .key ≡ g .key → j ≡ i
+  goes-sole i (inl x) j l u k = apart j i l (x .slot) u (x .used) (k ∙ sym (x .mine))
+  goes-sole i (inr x) j l u k = absurd (x .0 (j, record { slot = l; used = u; mine = k }))
+
+  -- a segment that was taken has MOR; one that completed has none, and went to the slot that the words say
+  mor-more : (w : Answer) → Answers K g b w → (i n : ℕ) → w ≡ taken i n → g .mor ≡ true
+  mor-more w (refuses m f) i n e = impossible (cc)
+  mor-more w (takes j m z q s t) i n e = q
+  mor-more w (completes j m z q s t) i n e = impossible (cc)
+
+  mor-last : (w : Answer) → Answers K g b w → (i n : ℕ) → w ≡ completed i n → (g .mor ≡ false) × Goes K g b i
+  mor-last w (refuses m f) i n e = impossible (cc)
+  mor-last w (takes j m z q s t) i n e = impossible (cc)
+  mor-last w (completes j m z q s t) i n e = let same : j ≡ i = cc in (q, subst (Goes K g b) same s)
+
+  pub mor-taken : (i n : ℕ) → rebuild K g b .answer ≡ taken i n → g .mor ≡ true
+  mor-taken i n e = mor-more (rebuild K g b .answer) answered i n e
+
+  pub mor-completed : (i n : ℕ) → rebuild K g b .answer ≡ completed i n → (g .mor ≡ false) × Goes K g b i
+  mor-completed i n e = mor-last (rebuild K g b .answer) answered i n e

@@ -8,7 +8,7 @@ use lib.Dec.{eqb, ltb}
 use lib.ListN.{length}
 use Rattle.octets.specs.Choice.{pick, both, non}
 use Rattle.messages.specs.Slots.{room, part, Keys, Segment, Box, lowest, isSome, slotAt, isFree, slotOf}
-use Rattle.messages.specs.Rows.{Answer, startsAt, nextNumber, spent, rebuild, forget}
+use Rattle.messages.specs.Rows.{Answer, startsAt, nextNumber, rebuild, forget}
 use Rattle.messages.specs.Rows.Answer.{refused, taken, completed}
 use Rattle.messages.specs.History.{Deed}
 use Rattle.messages.specs.History.Deed.{segment, forgetting}
@@ -79,11 +79,10 @@ alone g v full =
     pick (both (non anew) (non (opened v))) (gone (refuses 51) v)
     (pick (both later (non (eqb (g .number) (nextOf v)))) (gone (refuses 52) v)
     (pick (both later (non (eqb (g .choice) (choiceOf v)))) (gone (refuses 53) v)
-    (pick (spent (g .number) (g .mor)) (gone (refuses 55) none)
     (pick (ltb room (length whole)) (gone (refuses 54) none)
     (pick (both (non (opened v)) full) (gone (refuses 50) v)
     (pick (g .mor) (gone (takes (length whole)) (some (record { next = nextNumber (g .number); choice = g .choice; octets = whole })))
-    (gone (gives whole) none)))))))
+    (gone (gives whole) none))))))
 
 -- ---- a key's part of a run: its segments, and the forget orders that named its slot
 pub data Own (Key : Type 0) : Type 0 where

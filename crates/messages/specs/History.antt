@@ -3,7 +3,7 @@ use mathlib.Core.Path.{_≡_}
 use mathlib.Core.Bool.{Bool, true, false}
 use mathlib.Core.List.{List, [], _∷_, _++_}
 use mathlib.Core.Option.{Option, none, some}
-use Prim.Native.Nat.{ℕ, zero, suc, _*_}
+use Prim.Native.Nat.{ℕ, zero, suc, _*_, _%_}
 use lib.Dec.{eqb}
 use lib.ListN.{length}
 use Rattle.octets.specs.Choice.{pick, both}
@@ -31,9 +31,9 @@ accepted (refused n) = false
 accepted (taken i n) = true
 accepted (completed i n) = true
 
--- the number that is awaited after a segment's answer: 55 and 54 free the slot, and so does a message's last segment
+-- the number that is awaited after a segment's answer: 54 frees the slot, and so does a message's last segment
 abbrev pub leaves : ℕ → Answer → Option ℕ → Option ℕ
-leaves number (refused n) was = pick (eqb n 55) none (pick (eqb n 54) none was)
+leaves number (refused n) was = pick (eqb n 54) none was
 leaves number (taken i n) was = some (nextNumber number)
 leaves number (completed i n) was = none
 
@@ -59,7 +59,7 @@ module _ {Key : Type 0} (K : Keys Key) where
   awaited k (dropped j ∷ old) = pick (K .same j k) none (awaited k old)
   awaited k (stood j n ∷ old) = pick (K .same j k) (some n) (awaited k old)
 
-  -- an accepted segment that starts its key's message anew, after the older history: "segment 0"
+  -- whether a segment starts its key's message after the older history: "starting segment 0", number 0 where that is not the number awaited
   abbrev pub starting : Segment Key → Log Key → Bool
   starting g old = let next = awaited (g .key) old in startsAt (g .number) (isSome next) (orZero next)
 
@@ -70,7 +70,18 @@ module _ {Key : Type 0} (K : Keys Key) where
   begun k (dropped j ∷ old) = begun k old
   begun k (stood j n ∷ old) = begun k old
 
-  -- "its key's accepted segments since its latest segment 0", in the order in which they came
+  -- the same by what the history is made of: somewhere in it an accepted segment of the key started a message, whatever came behind it
+  pub record BeganIn (k : Key) (log : Log Key) : Type 0 where
+    pub later : Log Key
+    pub first : Segment Key
+    pub answer : Answer
+    pub older : Log Key
+    pub parts : log ≡ later ++ (said first answer ∷ older)
+    pub was-accepted : accepted answer ≡ true
+    pub mine : first .key ≡ k
+    pub starts : starting first older ≡ true
+
+  -- "its key's accepted segments since its latest starting segment 0", in "order of acceptance"
   abbrev pub since : Key → Log Key → List (Segment Key)
   since k [] = []
   since k (said g w ∷ old) = pick (of k g w) (pick (starting g old) (g ∷ []) (since k old ++ (g ∷ []))) (since k old)
@@ -85,16 +96,17 @@ abbrev pub numbers : {Key : Type 0} → List (Segment Key) → List ℕ
 numbers [] = []
 numbers (g ∷ gs) = g .number ∷ numbers gs
 
--- 0, 1, 2, .. below n
-abbrev pub below : ℕ → List ℕ
-below zero = []
-below (suc n) = below n ++ (n ∷ [])
+-- the first n of 0, 1, .., 255, 0, 1, ..: each place modulo 256
+abbrev pub sequence : ℕ → List ℕ
+sequence zero = []
+sequence (suc n) = sequence n ++ (n % 256 ∷ [])
 
--- "Each message .. is its key's accepted segments since its latest segment 0, joined in number order": so are the n octets of slot i, and n is their number
+-- "Each message .. is its key's accepted segments since its latest starting segment 0, joined in order of acceptance": so are the n octets of slot i, n is their
+-- number, and the segments' numbers count 0, 1, .., 255, 0, 1, ..
 pub record Rebuilt {Key : Type 0} (K : Keys Key) (k : Key) (log : Log Key) (area : List ℕ) (i n : ℕ) : Type 0 where
   pub octets : part (room * i) n area ≡ joined (since K k log)
   pub total : n ≡ length (joined (since K k log))
-  pub order : numbers (since K k log) ≡ below (length (since K k log))
+  pub order : numbers (since K k log) ≡ sequence (length (since K k log))
 
 -- ---- a run of segments and forget orders
 pub record Past (Key : Type 0) : Type 0 where

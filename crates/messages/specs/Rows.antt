@@ -1,26 +1,22 @@
--- What a segment does, by the rows 51, 52, 53, 55, 54, 50 in that order, and what a forget order does.
+-- What a segment does, by the rows 51, 52, 53, 54, 50 in that order, and what a forget order does.
 use mathlib.Core.Bool.{Bool, true}
 use mathlib.Core.List.{List}
 use mathlib.Core.Option.{Option, none, some}
-use Prim.Native.Nat.{ℕ, _+_, _*_}
+use Prim.Native.Nat.{ℕ, _+_, _*_, _%_}
 use lib.Dec.{eqb, ltb}
 use lib.ListN.{length, set}
 use Rattle.octets.specs.Choice.{pick, both, non}
 use Rattle.octets.specs.Splice.{splice}
 use Rattle.messages.specs.Slots.{room, Keys, Segment, Slot, Box, boxed, lowest, orElse, isSome, empty, slotAt, isFree, slotOf}
 
--- "Number 0 restarts an open key in its slot", and starts one that is not open: whether a segment with this number does, where its key is open
--- or not and, if it is, next is the number that must come
+-- "Number 0 continues an open key whose next number is 0 .. otherwise it starts or restarts": whether a segment with this number starts or restarts,
+-- where its key is open or not and, if it is, next is the number that must come
 unfoldable pub startsAt : ℕ → Bool → ℕ → Bool
-startsAt number isOpen next = eqb number 0
+startsAt number isOpen next = both (eqb number 0) (non (both isOpen (eqb next 0)))
 
--- "Any other number must be the next": the number after a number
+-- "The sequence octet after 255 is 0": the number after a number
 unfoldable pub nextNumber : ℕ → ℕ
-nextNumber n = n + 1
-
--- 55: "number 255 with MOR"
-abbrev pub spent : ℕ → Bool → Bool
-spent number mor = both (eqb number 255) mor
+nextNumber n = (n + 1) % 256
 
 -- refused with a number; held so far in a slot, n octets; complete in a slot, n octets
 pub data Answer : Type 0 where
@@ -77,15 +73,14 @@ module _ {Key : Type 0} (K : Keys Key) where
   abbrev pub before : Segment Key → Option ℕ → Slot Key → ℕ
   before g o t = pick (starts g o t) 0 (t .held)
 
-  -- 55, where no number comes after; 54: "would pass 16,384 octets"; then the key's own slot, "otherwise the search stops at the lowest free slot"
+  -- 54: "would pass 16,384 octets"; then the key's own slot, "otherwise the search stops at the lowest free slot"
   abbrev pub fitted : Segment Key → Option ℕ → ℕ → Box Key → Done Key
   fitted g o n b =
-      pick (spent (g .number) (g .mor)) (lost 55 o b)
-      (pick (ltb room (n + length (g .octets))) (lost 54 o b)
-      (settled g (orElse o (lowest (isFree K) (b .slots))) n b))
+      pick (ltb room (n + length (g .octets))) (lost 54 o b)
+      (settled g (orElse o (lowest (isFree K) (b .slots))) n b)
 
   -- o: the slot of the key, if it is open; t: its record.
-  -- 51: "number not 0 and key not open"; 52, 53: "key open, no restart: not the next number; choice differs"
+  -- 51: "number not 0 and key not open"; 52: "key open, number not 0 and not the next"; 53: "key open, not starting, choice differs"
   abbrev pub rows : Segment Key → Option ℕ → Slot Key → Box Key → Done Key
   rows g o t b =
       let anew = starts g o t in

@@ -1,4 +1,4 @@
--- The rows 51, 52, 53, 55, 54, 50 of the page's table in its own words, over the slots that are open, and the answer that they give. Nothing here searches.
+-- The rows 51, 52, 53, 54, 50 of the page's table in its own words, 52 and 53 as messages longer than 256 segments leave them, over the slots that are open, and the answer that they give. Nothing here searches.
 use mathlib.Core.Path.{_≡_}
 use mathlib.Core.Bool.{true, false}
 use mathlib.Core.Logic.{_⊎_}
@@ -34,17 +34,24 @@ module _ {Key : Type 0} (K : Keys Key) (g : Segment Key) (b : Box Key) where
   abbrev pub Open : Type 0
   Open = (i : ℕ) × OpenAt i
 
-  -- "no restart": "Number 0 restarts an open key in its slot"
   abbrev pub NotZero : Type 0
   NotZero = g .number ≡ 0 → ⊥
+
+  -- "an open key whose next number is 0"
+  abbrev pub AwaitsZero : Type 0
+  AwaitsZero = (i : ℕ) × OpenAt i × (slotAt K (b .slots) i .next ≡ 0)
+
+  -- "Number 0 continues an open key whose next number is 0 .. otherwise it starts or restarts"
+  abbrev pub Starts : Type 0
+  Starts = (g .number ≡ 0) × (AwaitsZero → ⊥)
 
   -- "no slot free"
   abbrev pub Full : Type 0
   Full = (i : ℕ) → i < length (b .slots) → slotAt K (b .slots) i .used ≡ true
 
-  -- "segments' parameters are laid end to end from its first": the octets that stand in front of the segment's, none for number 0
+  -- "segments' parameters are laid end to end from its first": the octets that stand in front of the segment's, none where it starts
   abbrev pub InFront : ℕ → Type 0
-  InFront n = ((g .number ≡ 0) × (n ≡ 0)) ⊎ (NotZero × ((i : ℕ) × OpenAt i × (n ≡ slotAt K (b .slots) i .held)))
+  InFront n = (Starts × (n ≡ 0)) ⊎ ((Starts → ⊥) × ((i : ℕ) × OpenAt i × (n ≡ slotAt K (b .slots) i .held)))
 
   -- and with them
   abbrev pub Total : ℕ → Type 0
@@ -54,17 +61,13 @@ module _ {Key : Type 0} (K : Keys Key) (g : Segment Key) (b : Box Key) where
   abbrev pub Words51 : Type 0
   Words51 = NotZero × (Open → ⊥)
 
-  -- 52: "key open, no restart: not the next number"
+  -- 52: "key open, number not 0 and not the next"
   abbrev pub Words52 : Type 0
   Words52 = (i : ℕ) × OpenAt i × NotZero × (g .number ≡ slotAt K (b .slots) i .next → ⊥)
 
-  -- 53: "key open, no restart: choice differs"
+  -- 53: "key open, not starting, choice differs"
   abbrev pub Words53 : Type 0
-  Words53 = (i : ℕ) × OpenAt i × NotZero × (g .choice ≡ slotAt K (b .slots) i .choice → ⊥)
-
-  -- 55: "number 255 with MOR"
-  abbrev pub Words55 : Type 0
-  Words55 = (g .number ≡ 255) × (g .mor ≡ true)
+  Words53 = (i : ℕ) × OpenAt i × (Starts → ⊥) × (g .choice ≡ slotAt K (b .slots) i .choice → ⊥)
 
   -- 54: "would pass 16,384 octets"
   abbrev pub Words54 : Type 0
@@ -75,7 +78,7 @@ module _ {Key : Type 0} (K : Keys Key) (g : Segment Key) (b : Box Key) where
   Words50 = (g .number ≡ 0) × (Open → ⊥) × Full
 
   abbrev pub table : Table
-  table = row 51 Words51 (row 52 Words52 (row 53 Words53 (row 55 Words55 (row 54 Words54 (row 50 Words50 end)))))
+  table = row 51 Words51 (row 52 Words52 (row 53 Words53 (row 54 Words54 (row 50 Words50 end))))
 
   -- "otherwise the search stops at the lowest free slot": slot i is free and none below it is
   pub record LowestFree (i : ℕ) : Type 0 where

@@ -76,7 +76,7 @@ module _ (t : Slots) (a : List ℕ) (p : passes keys 4 (view t) ≡ true) (z : l
   pub four : length (view t) ≡ 4
   four = eqb-true (length (view t)) 4 (both-left (eqb (length (view t)) 4) _ p)
 
-  -- "Each message begun and completed in the run is its key's accepted segments since its latest segment 0, joined in number order."
+  -- "Each message begun and completed in the run is its key's accepted segments since its latest starting segment 0, joined in order of acceptance."
   pub page-completes : (ds : List (Deed Key)) (g : Segment Key) (i n : ℕ)
       → (let q = after keys (segment g) (fromStart keys begin ds) in
       rebuild keys g (fromStart keys begin ds .box) .answer ≡ completed i n → begun keys (g .key) (q .log) ≡ true → Rebuilt keys (g .key) (q .log) (q .box .area) i n)
@@ -99,7 +99,7 @@ module _ (t : Slots) (a : List ℕ) (p : passes keys 4 (view t) ≡ true) (z : l
 
     sized-by : (d : Done Key) → Step keys (segmentOf g o) begin d → length (d .box .area) ≡ length a
     sized-by d (stays m) = refl
-    sized-by d (frees m i f l q) = refl
+    sized-by d (frees i l q) = refl
     sized-by d (took i n P) =
         let s = splice-length a (room * i + n) o (fits keys (segmentOf g o) begin fair i n P) in
         pick-case (λ (d : Done Key). length (d .box .area) ≡ length a) (g .mor) s s

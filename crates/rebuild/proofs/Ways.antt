@@ -3,7 +3,7 @@ use mathlib.Core.Path.{_≡_, refl, sym, ap, _∙_}
 use mathlib.Core.Bool.{Bool, true, false, not}
 use mathlib.Core.List.{List}
 use mathlib.Core.Option.{Option, none, some}
-use Prim.Native.Nat.{ℕ, _+_, _*_, _≤_, _<_}
+use Prim.Native.Nat.{ℕ, _+_, _*_, _%_, _^_, _≤_, _<_}
 use native.Mathlib.Omega.{arith}
 use lib.ListN.{length, getD, set, drop}
 use borrow.Author.Tests.{not-true, not-false, lt-ltb, le-ltb, eq-eqb, ne-eqb}
@@ -13,8 +13,8 @@ use Rattle.npdu.specs.Address.{sameAddress, givesSource, givesDestination}
 use Rattle.messages.specs.Slots as Messages
 use Rattle.messages.specs.Rows as Rules
 use Rattle.messages.specs.Sound as Sound
-use Rattle.messages.proofs.Starts.{starts-zero}
-use Rattle.messages.proofs.Rows.{rebuild-open, rebuild-new, new-51, new-start, open-restart, open-52, open-53, open-on, fitted-55, fitted-54, fitted-on}
+use Rattle.messages.proofs.Starts.{starts-other, starts-new, starts-open, starts-awaited, next-is}
+use Rattle.messages.proofs.Rows.{rebuild-open, rebuild-new, new-51, new-start, open-restart, open-52, open-53, open-on, fitted-54, fitted-on}
 use Rattle.messages.proofs.Sound.{sound-over, sound-strange, sound-twice, sound-on, sound-end}
 use Rattle.rebuild.specs.View.{sameKey, givenKey, keys, freeSlot, seen, view, segmentOf, found}
 use Rattle.rebuild.specs.Calls.{Gives, taking, Forgets}
@@ -29,11 +29,6 @@ use Rattle.rebuild.specs.declared.search.Found.the-variants.{At, Nothing
 use Rattle.rebuild.proofs.Lookup.{turn, meets, ends, found-at, found-none}
 use Rattle.rebuild.proofs.Seen.{blank, seen-at, at-view, free-at, length-view, past-last, found-below, twice-free, twice-found, twice-alone}
 use Rattle.rebuild.proofs.Giving.{gives-by, gives-kept, gives-lost, gives-more, gives-last, taking-60, taking-on, forgets, forgets-not}
-use Rattle.rebuild.proofs.Numbers.{zero-fits}
-
--- what a call answered is what it was asked for
-pub answered : (b v w : Bool) → b ≡ v → b ≡ w → v ≡ w
-answered b v w e q = sym e ∙ q
 
 -- ---- two keys whose numbers are the same, x whether their sources are: the same where both addresses are
 module _ (a b : Key) (i : a .invoke ≡ b .invoke) (s : a .source ≡ b .source) (d : a .destination ≡ b .destination) (k : a .kind ≡ b .kind)
@@ -214,9 +209,18 @@ Kept m t r = (r .answer ≡ Refused m) × (r .slots ≡ t)
 abbrev Lost : ℕ → Slots → ℕ → Taken → Type 0
 Lost m t s r = (r .answer ≡ Refused m) × (r .slots .slots ≡ set (t .slots) s freeSlot)
 
--- ---- a segment that starts a message is not 55's
-pub starts-unspent : (number : ℕ) (mor b : Bool) → b ≡ Rules.startsAt number false 0 → not b ≡ false → Rules.spent number mor ≡ false
-starts-unspent number mor b e n = zero-fits number mor (starts-zero number false 0 (sym e ∙ not-false b n))
+-- ---- whether a number starts its key's message, u whether the key is open
+module _ (number : ℕ) (u : Bool) (next : ℕ) where
+  pub starts-not : (number ≡ 0 → ⊥) → false ≡ Rules.startsAt number u next
+  starts-not h = sym (starts-other number u next (ne-eqb number 0 h))
+
+pub starts-anew : (number : ℕ) (u : Bool) (next : ℕ) → number ≡ 0 → (next ≡ 0 → ⊥) → true ≡ Rules.startsAt number u next
+starts-anew number true next z h = sym (starts-open number next (ne-eqb next 0 h) ∙ eq-eqb number 0 z)
+starts-anew number false next z h = sym (starts-new number next ∙ eq-eqb number 0 z)
+
+pub starts-shut : (number : ℕ) (u : Bool) (next : ℕ) → number ≡ 0 → next ≡ 0 → not u ≡ Rules.startsAt number u next
+starts-shut number true next z h = sym (starts-awaited number next (eq-eqb next 0 h))
+starts-shut number false next z h = sym (starts-new number next ∙ eq-eqb number 0 z)
 
 -- ---- a segment g with the octets o, at the slots t and the area
 module _ (t : Slots) (g : Segment) (o area : List ℕ) where
@@ -226,7 +230,7 @@ module _ (t : Slots) (g : Segment) (o area : List ℕ) where
   abbrev box : Messages.Box Key
   box = Messages.boxed (view t) area
 
-  -- what is answered and left is what the rules give: laid in slot s behind n octets; behind 55 and 54; its key open in slot s; its key not open
+  -- what is answered and left is what the rules give: laid in slot s behind n octets; behind 54; its key open in slot s; its key not open
   abbrev Settled : ℕ → ℕ → Taken → List ℕ → Type 0
   Settled s n = Gives (Rules.settle keys seg s n box)
 
@@ -241,25 +245,22 @@ module _ (t : Slots) (g : Segment) (o area : List ℕ) where
 
   -- laid in slot s behind n octets; k is the number after its own
   module _ (s n : ℕ) (u : Slots) (later : List ℕ) (a : later ≡ splice area (16384 * s + n) o) where
-    pub settles-more : (k : ℕ) → g .mor ≡ true → k ≡ Rules.nextNumber (g .number)
+    pub settles-more : (k : ℕ) → g .mor ≡ true → k ≡ (g .number + 1) % 2 ^ 8
         → u .slots ≡ set (t .slots) s (record { used = true; key = g .key; next = k; choice = g .choice; held = n + length o })
         → Settled s n (record { answer = Held s (n + length o); slots = u }) later
-    settles-more k m e d = gives-more t area g o s n u later m (rw e at d) a
+    settles-more k m e d = gives-more t area g o s n u later m (rw (e ∙ sym (next-is (g .number))) at d) a
 
     pub settles-last : g .mor ≡ false → u .slots ≡ set (t .slots) s freeSlot
         → Settled s n (record { answer = Complete s (n + length o); slots = u }) later
     settles-last m d = gives-last t area g o s n u later m d a
 
-  -- 55 and 54; b: whether no number comes after
-  module _ (s n : ℕ) (b : Bool) (e : b ≡ Rules.spent (g .number) (g .mor)) where
-    pub fits-55 : {r : Taken} → b ≡ true → Lost 55 t s r → Fitted s n r area
-    fits-55 q w = gives-by (fitted-55 keys seg box (some s) n (sym e ∙ q)) (gives-lost t area 55 s w)
+  -- 54
+  module _ (s n : ℕ) where
+    pub fits-54 : {r : Taken} → 16384 < n + length o → Lost 54 t s r → Fitted s n r area
+    fits-54 h w = gives-by (fitted-54 keys seg box (some s) n (lt-ltb 16384 (n + length o) h)) (gives-lost t area 54 s w)
 
-    pub fits-54 : {r : Taken} → b ≡ false → 16384 < n + length o → Lost 54 t s r → Fitted s n r area
-    fits-54 q h w = gives-by (fitted-54 keys seg box (some s) n (sym e ∙ q) (lt-ltb 16384 (n + length o) h)) (gives-lost t area 54 s w)
-
-    pub fits-on : {r : Taken} {later : List ℕ} → b ≡ false → n + length o ≤ 16384 → Settled s n r later → Fitted s n r later
-    fits-on q h w = gives-by (fitted-on keys seg box (some s) n (sym e ∙ q) (le-ltb 16384 (n + length o) h)) w
+    pub fits-on : {r : Taken} {later : List ℕ} → n + length o ≤ 16384 → Settled s n r later → Fitted s n r later
+    fits-on h w = gives-by (fitted-on keys seg box (some s) n (le-ltb 16384 (n + length o) h)) w
 
   -- its key is open in slot s; b: whether it starts the message anew
   module _ (s : ℕ) (four : length (t .slots) ≡ 4) (inside : s < 4) (b : Bool) (e : b ≡ Rules.startsAt (g .number) true (getD (t .slots) s blank .next)) where
@@ -291,12 +292,9 @@ module _ (t : Slots) (g : Segment) (o area : List ℕ) where
     news-51 n w = gives-by (new-51 keys seg box (sym e ∙ not-true b n)) (gives-kept t area 51 w)
 
     module _ (n : not b ≡ false) where
-      unspent : Rules.spent (g .number) (g .mor) ≡ false
-      unspent = starts-unspent (g .number) (g .mor) b e n
-
       pub news-54 : {r : Taken} → 16384 < length o → Kept 54 t r → New r area
       news-54 h w =
-          gives-by (new-start keys seg box (sym e ∙ not-false b n) ∙ fitted-54 keys seg box none 0 unspent (lt-ltb 16384 (0 + length o) (omega arith)))
+          gives-by (new-start keys seg box (sym e ∙ not-false b n) ∙ fitted-54 keys seg box none 0 (lt-ltb 16384 (0 + length o) (omega arith)))
           (gives-kept t area 54 w)
 
       module _ (h : length o ≤ 16384) (f : Found) (k : f ≡ found 0 (Messages.lowest (Messages.isFree keys) (view t))) where
@@ -305,7 +303,7 @@ module _ (t : Slots) (g : Segment) (o area : List ℕ) where
             → Rules.rows keys seg none (Messages.empty keys) box ≡ Rules.settled keys seg x 0 box
         to-free q =
             new-start keys seg box (sym e ∙ not-false b n)
-            ∙ fitted-on keys seg box none 0 unspent (le-ltb 16384 (0 + length o) (omega arith))
+            ∙ fitted-on keys seg box none 0 (le-ltb 16384 (0 + length o) (omega arith))
             ∙ ap (λ (x : Option ℕ). Rules.settled keys seg x 0 box) q
 
         pub news-settles : {r : Taken} {later : List ℕ} (s : ℕ) → f ≡ At s → Settled s 0 r later → New r later

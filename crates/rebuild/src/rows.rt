@@ -1,4 +1,4 @@
-// The rows 51, 52, 53, 55, 54, 50 in that order, and the laying of a segment.
+// The rows 51, 52, 53, 54, 50 in that order, and the laying of a segment.
 use crate::Segment;
 use crate::Slot;
 use crate::Slots;
@@ -49,35 +49,22 @@ fn lost(t: Slots, s: usize, n: u8) -> Taken
     }
 }
 
-// Whether a segment with this number starts its key's message, or starts it anew: by whether the key is open and which number must come.
+// Whether a segment with this number starts its key's message, or starts it anew: number 0 does, but where the key is open and 0 must come next.
 fn starts(number: u8, is_open: bool, next: u8) -> bool
     ensures { λ r. ⌜ r ≡ Rules.startsAt number is_open next ⌝ }
 {
-    number == 0
-}
-
-// The number after a number.
-fn next_number(n: u8) -> u8
-    requires { ⌜ n < 255 ⌝ }
-    ensures { λ r. ⌜ r ≡ Rules.nextNumber n ⌝ }
-{
-    n + 1
-}
-
-// 55: the number after this one would not be one.
-fn last_number(g: Segment) -> bool
-    ensures { λ r. ⌜ r ≡ Rules.spent (g .number) (g .mor) ⌝ }
-{
-    let mor = g.mor;
-    if g.number == 255 {
-        return mor;
+    if number != 0 {
+        return false;
     }
-    false
+    if next != 0 {
+        return true;
+    }
+    !is_open
 }
 
 // The segment laid in slot s behind n octets: held there, or complete and the slot freed.
 fn settle(t: Slots, s: usize, n: usize, g: Segment, octets: &[u8], area: &mut [u8]) -> Taken
-    requires { ⌜ Fits s n (now octets) (now area) × (Rules.spent (g .number) (g .mor) ≡ false) ⌝ }
+    requires { ⌜ Fits s n (now octets) (now area) ⌝ }
     ensures { λ r. ⌜ Gives (Rules.settle keys (segmentOf g (now (octets .entry))) s n (boxed (view t) (now (area .entry)))) r (now (area .exit)) ⌝ }
 {
     octets::copy(octets, area, 16384 * s + n);
@@ -89,7 +76,7 @@ fn settle(t: Slots, s: usize, n: usize, g: Segment, octets: &[u8], area: &mut [u
         let x = Slot {
             used: true,
             key: k,
-            next: next_number(g.number),
+            next: std::num::wrapping_add_u8(g.number, 1),
             choice: g.choice,
             held: total,
         };
@@ -104,14 +91,11 @@ fn settle(t: Slots, s: usize, n: usize, g: Segment, octets: &[u8], area: &mut [u
     }
 }
 
-// 55 and 54 free the key's slot s, where n octets stand before the segment's; else it is laid there.
+// 54 frees the key's slot s, where n octets stand before the segment's; else it is laid there.
 fn fitted(t: Slots, s: usize, n: usize, g: Segment, octets: &[u8], area: &mut [u8]) -> Taken
     requires { ⌜ (s < 4) × ((n ≤ 65535) × (length (now area) ≡ 65536)) ⌝ }
     ensures { λ r. ⌜ Gives (Rules.fitted keys (segmentOf g (now (octets .entry))) (some s) n (boxed (view t) (now (area .entry)))) r (now (area .exit)) ⌝ }
 {
-    if last_number(g) {
-        return lost(t, s, 55);
-    }
     if 16384 < n + octets.len() {
         return lost(t, s, 54);
     }

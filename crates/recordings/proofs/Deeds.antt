@@ -65,7 +65,7 @@ module _ {O Key M R : Type 0} (K : Keys Key) (L : KeyLaws K) (f : Frames O Key R
     all : fromStart K (boxed s a) (deeds K f t p (front ++ (trunk e ∷ []))) ≡ after K (segment g) (fromStart K (boxed s a) (deeds K f t p front))
     all = ap (fromStart K (boxed s a)) one-more ∙ runs-append K (deeds K f t p front) (segment g ∷ []) (past (standing s) (boxed s a))
 
-    -- "Each message begun and completed in the run is its key's accepted segments since its latest segment 0, joined in number order": at the
+    -- "Each message begun and completed in the run is its key's accepted segments since its latest starting segment 0, joined in order of acceptance": at the
     -- place where its last segment ends, the n octets of its slot are so, and n is their number.
     pub message : (k : Key) (i n : ℕ)
         → (let run = front ++ (trunk e ∷ []) in

@@ -1,5 +1,4 @@
 use borrow.Author.Needs.{needs}
-use Rattle.rebuild.proofs.Numbers.{next-fits}
 use Rattle.rebuild.proofs.Ways.{settles-more, settles-last}
 use Rattle.rebuild.proofs.rows.settle.Statement.{statement}
 use Rattle.rebuild.proofs.rows.settle.Tie as tie
@@ -14,7 +13,7 @@ settle-spec =
     (λ c. search needs)
     (λ c. search needs)
     (λ c. search needs)
-    (λ c κs. search (needs, next-fits))
+    (λ c κs. search needs)
     (λ c κs. search needs)
     (λ c. search needs)
     (λ c. search (needs, settles-more))

@@ -1,9 +1,7 @@
 use borrow.Author.Needs.{needs}
-use Rattle.octets.specs.Rules.{tests}
-use Rattle.messages.specs.Rows.{startsAt}
+use Rattle.rebuild.proofs.Ways.{starts-not, starts-anew, starts-shut}
 use Rattle.rebuild.proofs.rows.starts.Statement.{statement}
 use Rattle.rebuild.proofs.rows.starts.Tie as tie
 
 pub starts-spec : {M : Type 1} → statement M
-unfolding startsAt
-starts-spec = tie.close (tie.spec (λ c. search (needs, tests)))
+starts-spec = tie.close (tie.spec (λ c. search (needs, starts-not)) (λ c. search (needs, starts-anew)) (λ c. search (needs, starts-shut)))

@@ -3,7 +3,7 @@ use native.Mathlib.Omega.{arith}
 use mathlib.Core.Path.{_≡_}
 use lib.ListN.{length}
 use Rattle.rebuild.proofs.Seen.{length-of-map}
-use Rattle.rebuild.proofs.Ways.{news-51, news-54, starts-unspent, news-settles, news-50, found-here}
+use Rattle.rebuild.proofs.Ways.{news-51, news-54, news-settles, news-50, found-here}
 use Rattle.rebuild.proofs.rows.take_new.Statement.{statement}
 use Rattle.rebuild.proofs.rows.take_new.Tie as tie
 
@@ -13,7 +13,7 @@ four st = search (length-of-map, st .good)
 settle-requires : tie.Need-settle-requires
 settle-requires c κs =
     let st : tie.Start = search needs in
-    (record { here = search (needs, found-here, four st); within = omega arith; sized = search needs }, search (needs, starts-unspent))
+    record { here = search (needs, found-here, four st); within = omega arith; sized = search needs }
 
 pub take-new-spec : {M : Type 1} → statement M
 take-new-spec =
