@@ -5,6 +5,8 @@
                                    last a hash of the message area
      bench stack FILE PIECE        the largest stack that a call used, in octets
      bench empty FILE CALLS RUNS LESS   feeds as `run` does, then makes so many calls with an empty piece, and says nothing
+     bench header CALLS OCTETS     makes so many calls that run the header's check over so many octets, and says nothing
+     bench data CALLS OCTETS       the same of the data's check
      bench sizes                   the size of the state
      bench stacks                  the stack of each call but hb_feed (the proved library alone)
      bench run FILE PIECE RUNS [LESS]   feeds the first RUNS runs of octets (silences and forget orders end a run), the last LESS octets of the
@@ -35,6 +37,8 @@ static void fresh(void) { plain_fresh(&state, later); }
 static size_t feed(const uint8_t *s, size_t n, int *reported) { return plain_feed(&state, s, n, report, area, reported); }
 static int silence(void) { return plain_silence(&state, report); }
 static void forget(uint8_t slot) { plain_forget(&state, slot); }
+static void header_run(const uint8_t *s, size_t n) { plain_header_run(0xFF, s, n); }
+static void data_run(const uint8_t *s, size_t n) { plain_data_run(0xFFFF, s, n); }
 #else
 #include "proved.h"
 #endif
@@ -195,6 +199,12 @@ static void empty(size_t calls)
 #endif
 }
 
+/* The check sums by themselves, over zeros. */
+static void sums(void (*run)(const uint8_t *, size_t), size_t calls, size_t n)
+{
+    while (calls--) run(octets, n);
+}
+
 /* ---- the stack: painted, used, read back */
 
 static uint8_t stack[STACK] __attribute__((aligned(16)));
@@ -237,8 +247,13 @@ static int begin(int argc, char **argv)
         return 0;
     }
     if (argc < 4) {
-        say("usage: bench [later] reports FILE PIECE | stack FILE PIECE | run FILE PIECE RUNS | empty FILE CALLS RUNS LESS | sizes\n");
+        say("usage: bench [later] reports FILE PIECE | stack FILE PIECE | run FILE PIECE RUNS | empty FILE CALLS RUNS LESS |\n"
+            "       header CALLS OCTETS | data CALLS OCTETS | sizes\n");
         return 2;
+    }
+    if (same(mode, "header") || same(mode, "data")) {
+        sums(same(mode, "header") ? header_run : data_run, number_of(argv[2]), number_of(argv[3]));
+        return 0;
     }
     load(argv[2]);
     piece = number_of(argv[3]);

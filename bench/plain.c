@@ -45,6 +45,18 @@ static uint16_t data_step(uint16_t sum, uint8_t b)
 }
 #endif
 
+uint8_t plain_header_run(uint8_t sum, const uint8_t *s, size_t n)
+{
+    while (n--) sum = header_step(sum, *s++);
+    return sum;
+}
+
+uint16_t plain_data_run(uint16_t sum, const uint8_t *s, size_t n)
+{
+    while (n--) sum = data_step(sum, *s++);
+    return sum;
+}
+
 /* ---- tag items */
 
 static int fits(unsigned type, uint32_t n)

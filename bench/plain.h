@@ -38,6 +38,10 @@ int plain_silence(struct plain *p, uint8_t *report);
 /* Frees a slot: 0, or 56 where it is not open. */
 int plain_forget(struct plain *p, unsigned slot);
 
+/* The registers of the two check sums after a run of octets. */
+uint8_t plain_header_run(uint8_t sum, const uint8_t *s, size_t n);
+uint16_t plain_data_run(uint16_t sum, const uint8_t *s, size_t n);
+
 /* How many tag items these octets are, or minus the refusal number. */
 int plain_items(const uint8_t *s, size_t n);
 

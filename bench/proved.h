@@ -1,6 +1,8 @@
 /* The proved listener behind the names that bench.c calls: the library's calls on lent areas. */
 static uint8_t state[HB_STATE];
 static void fresh(void) { hb_fresh(state, HB_STATE, later); }
+static void header_run(const uint8_t *s, size_t n) { hb_header_run(0xFF, s, n); }
+static void data_run(const uint8_t *s, size_t n) { hb_data_run(0xFFFF, s, n); }
 #ifdef REPLAYED
 static void leave(int status);
 static size_t replay(const uint8_t *records, size_t n, int *reported)

@@ -4,6 +4,8 @@
 
      idle          tokens and polls of eight masters, a second of a trunk (7,680 octets)
      readings      the same masters, and at every second token one reads a chamber's voltage and is answered
+     acks          simple acks, frames with five data octets
+     noise         tokens with a bad header check and simple acks with a bad data check, in turn: no frame is good
      full          frames with 501 data octets
      segmented     logs on four keys at once, each of five segments
      routed        eight devices behind two routers, four logs at once; the invoke IDs of all are one
@@ -169,6 +171,33 @@ static void readings(void)
         send(0, (m + 1) % 8, m, NULL, 0);
         if (turn % 2) reading(32 + turn % 64, m, turn % 256, turn * 5 % 512, (float)(2500 + below(1700)) / 1000);
         if (turn % 50 == 49) send(1, 8 + turn % 100, m, NULL, 0);
+    }
+}
+
+static void simple_ack(int invoke)
+{
+    const uint8_t data[] = {0x01, 0x00, 0x20, (uint8_t)invoke, 0x0F};
+    make(6, 1, 3, data, sizeof data);
+}
+
+static void acks(void)
+{
+    for (int i = 0; i < 500; i++) {
+        simple_ack(i);
+        put(frame, frame_length);
+    }
+}
+
+/* One of a token's five header octets, and one of an ack's data octets, has one bit turned. */
+static void noise(void)
+{
+    for (int i = 0; i < 330; i++) {
+        make(0, i % 8, 1 + i % 7, NULL, 0);
+        frame[2 + i % 5] ^= (uint8_t)(1 << i % 8);
+        put(frame, frame_length);
+        simple_ack(i);
+        frame[8 + i % 5] ^= (uint8_t)(1 << i % 8);
+        put(frame, frame_length);
     }
 }
 
@@ -471,6 +500,8 @@ int main(int argc, char **argv)
     int n = argc < 3 ? 0 : atoi(argv[2]);
     if (!strcmp(name, "idle")) idle();
     else if (!strcmp(name, "readings")) readings();
+    else if (!strcmp(name, "acks")) acks();
+    else if (!strcmp(name, "noise")) noise();
     else if (!strcmp(name, "full")) full();
     else if (!strcmp(name, "segmented")) segmented();
     else if (!strcmp(name, "routed")) routed();
@@ -483,7 +514,8 @@ int main(int argc, char **argv)
     else if (!strcmp(name, "nested") && n <= 4096) nested(n);
     else if (!strcmp(name, "message") && n <= 16384) message(n, 460);
     else {
-        fputs("usage: recordings [octets | raw] idle | readings | full | segmented | routed | long [N] | damaged [N] | requests [N] | crossed [N] | wrapped [N] | flat N | nested N | message N\n", stderr);
+        fputs("usage: recordings [octets | raw] idle | readings | acks | noise | full | segmented | routed | long [N] | damaged [N] | requests [N] | crossed [N] |\n"
+              "       wrapped [N] | flat N | nested N | message N\n", stderr);
         return 2;
     }
     return 0;
