@@ -21,6 +21,7 @@ use Rattle.apdu.specs.declared.Pdu.{Pdu}
 use Rattle.apdu.specs.declared.Pdu.the-variants.{Request, Unconfirmed, SimpleAck, ComplexAck, SegmentAck, Error, Reject, Abort}
 use Rattle.apdu.specs.declared.Answer.{Answer}
 use Rattle.apdu.specs.declared.Answer.the-variants.{Good, Refused}
+use Rattle.items.specs.Records.{Rec}
 use Rattle.items.specs.Reading.{Out, itemsOf, counted}
 use Rattle.items.specs.Reading.Out.{good, bad}
 use Rattle.items.specs.declared.Tally.{Tally}
@@ -97,24 +98,31 @@ pub parts-within : (edition : Edition) (a : List ℕ) {x : Answer} (p : Pdu) {m 
 unfolding partsOf
 parts-within edition a p e q k = rw k (params-within edition a p (sym e ∙ q))
 
--- tags by their count
-tags-good : (x : Out) (fine : Report) (n : ℕ) → counted x ≡ Items n → byTags x fine ≡ fine
-unfolding counted
-tags-good (good rs end) fine n e = refl
-tags-good (bad y) fine n e = impossible (cc)
+-- the report by the tags
+pub tags-good : {x : Out} (fine : Report) {rs : List Rec} {end : ℕ} → x ≡ good rs end → byTags x fine ≡ fine
+tags-good fine e = rw e
 
-tags-bad : (x : Out) (fine : Report) (y : ℕ) → counted x ≡ Tally.Refused y → byTags x fine ≡ refusal (fine .frame) y
+pub tags-bad : {x : Out} (fine : Report) {y : ℕ} → x ≡ bad y → byTags x fine ≡ refusal (fine .frame) y
+tags-bad fine e = rw e
+
+-- tags by their count
+counted-good : (x : Out) (fine : Report) (n : ℕ) → counted x ≡ Items n → byTags x fine ≡ fine
 unfolding counted
-tags-bad (good rs end) fine y e = impossible (cc)
-tags-bad (bad z) fine y e = let q : z ≡ y = cc in ap (refusal (fine .frame)) q
+counted-good (good rs end) fine n e = refl
+counted-good (bad y) fine n e = impossible (cc)
+
+counted-bad : (x : Out) (fine : Report) (y : ℕ) → counted x ≡ Tally.Refused y → byTags x fine ≡ refusal (fine .frame) y
+unfolding counted
+counted-bad (good rs end) fine y e = impossible (cc)
+counted-bad (bad z) fine y e = let q : z ≡ y = cc in ap (refusal (fine .frame)) q
 
 -- the report by the tags, y being the answer of counting them
 module _ (x : Out) (fine : Report) {y : Tally} {report : List ℕ} (e : y ≡ counted x) where
   pub tags-put : {n : ℕ} → y ≡ Items n → report ≡ reportOctets fine → report ≡ reportOctets (byTags x fine)
-  tags-put {n} q h = h ∙ ap reportOctets (sym (tags-good x fine n (sym e ∙ q)))
+  tags-put {n} q h = h ∙ ap reportOctets (sym (counted-good x fine n (sym e ∙ q)))
 
   pub tags-turn : {n : ℕ} {r : Report} → y ≡ Tally.Refused n → r ≡ refusal (fine .frame) n → report ≡ reportOctets r → report ≡ reportOctets (byTags x fine)
-  tags-turn {n} q k h = h ∙ ap reportOctets (k ∙ sym (tags-bad x fine n (sym e ∙ q)))
+  tags-turn {n} q k h = h ∙ ap reportOctets (k ∙ sym (counted-bad x fine n (sym e ∙ q)))
 
 -- ---- parts of a slice, as the code lends them
 pub part-rest : (s : List ℕ) (at : ℕ) → take (length s - at) (drop at s) ≡ drop at s

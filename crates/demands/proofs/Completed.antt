@@ -27,7 +27,7 @@ use Rattle.apdu.specs.declared.Edition.{Edition}
 use Rattle.apdu.specs.declared.Answer as Apdu
 use Rattle.apdu.specs.declared.Answer.the-variants.{Good, Refused}
 use Rattle.items.specs.Reading as Items
-use Rattle.items.specs.Reading.{itemsOf, counted}
+use Rattle.items.specs.Reading.{itemsOf}
 use Rattle.items.specs.Reading.Out.{good, bad}
 use Rattle.messages.specs.Slots.{Segment, Slot, Box, boxed, room, part}
 use Rattle.messages.specs.Rows as Rows
@@ -67,7 +67,7 @@ use Rattle.hitchbarley.proofs.Offerable as Offerable
 use Rattle.demands.specs.Words.{Between, SegmentChanges}
 use Rattle.demands.specs.Completed.{kindIn, numberIn, slotIn, lengthIn, Names, tagNumber, answerIn, reportAt, segmentEnding, heardEntry, heardKey, heardForget, heardLog, heardFrom}
 use Rattle.demands.specs.Completed.{Whole, WholeButTags, OfSegment, AsReported, CompletedAsReported, CompletedOverOctets, BegunExactly, StartsHeard, StartsRecorded, CanBeLinked}
-use Rattle.demands.proofs.Numbers.{count-numbers}
+use Rattle.demands.proofs.Numbers.{bad-row}
 use Rattle.demands.proofs.Segments.{segment-does}
 use Rattle.demands.proofs.HeardKeys.{Alike, Same, same-said, Tied, tied-start, tied-said, tied-forget}
 use Rattle.demands.proofs.HeardKeys.Alike.{both-refused, both-taken, both-completed}
@@ -113,10 +113,6 @@ data Told (k : Key) (w : Answer) (area r : List ℕ) : Type 0 where
 length-back : (r : Report) → r .length ≤ 16384 → valueAt (reportOctets r) 8 4 ≡ r .length
 unfolding reportOctets valueAt
 length-back r h = rw (digits-four (r .length)) (omega arith)
-
-bad-row : (s : List ℕ) (x : ℕ) → itemsOf s ≡ bad x → Between 30 39 x
-unfolding counted
-bad-row s x e = count-numbers s .0 x (ap counted e)
 
 -- a report of a segment names four parts of its key
 named : (w : Heard) (v : Route) (m : Parts) → Typed m → (r : Report) → r .frame ≡ w .frame → r .apdu ≡ m .apdu → Names (reportOctets r) (keyOf w v m)

@@ -1,11 +1,10 @@
 -- The rows 30 to 39 over a run of items, and its records: what the statements of specs/ItemRows say, from the laws of items.
 use Prim.Native.Nat.{ℕ, zero, suc, _+_, _≤_, _<_}
 use native.Mathlib.Omega.{arith}
-use mathlib.Core.Path.{_≡_, refl, sym, ap, subst, _∙_}
+use mathlib.Core.Path.{_≡_, refl, sym, ap, _∙_}
 use mathlib.Core.Logic.{inl, inr}
 use mathlib.Core.List.{List, [], _∷_, _++_, append-nil}
 use lib.ListN.{length, length-append}
-use Rattle.octets.specs.Choice.{impossible}
 use Rattle.octets.specs.Reading.{Octets}
 use Rattle.octets.specs.Every.{octets-none, octets-more, octets-join}
 use Rattle.octets.specs.Numbers.{digits}
@@ -14,34 +13,23 @@ use Rattle.tags.specs.Types.{least, most}
 use Rattle.tags.specs.Reading.{numberAt, twoAt, fourAt, lengthAt, firstRule, firstContent, wholeAt, signBad, signedAt, contentsAt, contextAt, applicationAt, headAt}
 use Rattle.tags.specs.Layout.{Thing, Valid, encode, goodContents, highBits, numberOctets, lowBits, lengthOctets, tagLength}
 use Rattle.tags.specs.Layout.Thing.{application, opening}
-use Rattle.items.specs.Records.{Rec, recordOctets, recordsOctets}
+use Rattle.items.specs.Records.{recordOctets, recordsOctets}
 use Rattle.items.specs.Reading.{Out, more, ending, closes, step, walk, itemsOf, counted}
 use Rattle.items.specs.Reading.Out.{good, bad}
 use Rattle.items.specs.Grammar.{encodeAll, Balanced, AllValid, Grammar, recordOf, recordsFrom}
-use Rattle.items.specs.Listing.{listing}
+use Rattle.items.specs.Listing.{ReadAs, listing}
 use Rattle.items.specs.Rows.{Leads, Row}
 use Rattle.items.specs.Rows.Behind.{one-more, ends-open}
 use Rattle.items.specs.Rows.Row.{offends}
-use Rattle.items.specs.declared.Tally.{Tally}
 use Rattle.items.specs.declared.Tally.the-variants.{Items}
 use Rattle.items.proofs.Exact.{reads, written}
 use Rattle.items.proofs.LeftToRight.{items-front}
 use Rattle.items.proofs.ListedRecords.{records-count, records-listed, listed-written}
 use Rattle.items.proofs.Rows.{rows-exact}
-use Rattle.demands.specs.ItemRows.{ItemRows, Verdict, ItemsOneRow, ItemsCount, ItemsLeftToRight, ItemsRecords, ListedRecords, RecordsWorked, times, ItemsWorked, ItemsMost}
-
--- ---- the number that counting gives is the reading's
-refused-of : (q : Out) (x : ℕ) → counted q ≡ Tally.Refused x → q ≡ bad x
-unfolding counted
-refused-of (good rs end) x e = impossible (cc)
-refused-of (bad y) x e = let z : y ≡ x = cc in ap bad z
-
-of-refused : (q : Out) (x : ℕ) → q ≡ bad x → counted q ≡ Tally.Refused x
-unfolding counted
-of-refused q x e = rw e
+use Rattle.demands.specs.ItemRows.{ItemRows, Verdict, ItemsOneRow, ItemsCount, ItemsLeftToRight, ItemsRecords, ListedRecords, RecordsWorked, Refuses, times, ItemsWorked, ItemsMost}
 
 pub item-rows : ItemRows
-item-rows o os x = (λ e. rows-exact o os x .0 (refused-of (itemsOf o) x e), λ w. of-refused (itemsOf o) x (rows-exact o os x .1 w))
+item-rows = rows-exact
 
 -- ---- exactly one
 -- a refusal's number, 0 of what is read
@@ -63,27 +51,20 @@ items-one-row o os =
     record { answer = numberOf (itemsOf o); allowed = verdict o os (itemsOf o) refl; same = λ x y a b. verdict-is o os x a ∙ sym (verdict-is o os y b) }
 
 -- ---- the count
-counted-of : (q : Out) (n : ℕ) → counted q ≡ Items n → (rs : List Rec) × (end : ℕ) × (q ≡ good rs end) × (length rs ≡ n)
-unfolding counted
-counted-of (good rs end) n e = (rs, end, refl, (let z : length rs ≡ n = cc in z))
-counted-of (bad x) n e = impossible (cc)
-
-things-counted : (o : List ℕ) → Octets o → (n : ℕ) → counted (itemsOf o) ≡ Items n → (ts : List Thing) × Grammar ts × (o ≡ encodeAll ts) × (length ts ≡ n)
-things-counted o os n e =
-    let z = counted-of (itemsOf o) n e in
+things-read : (o : List ℕ) → Octets o → (n : ℕ) → ReadAs o n → (ts : List Thing) × Grammar ts × (o ≡ encodeAll ts) × (length ts ≡ n)
+things-read o os n z =
     let w = written o os (z .0) (z .1) (z .2) in
     (w .things, w .grammar, w .octets, sym (records-count 0 0 (w .things)) ∙ sym (ap length (w .records)) ∙ z .3)
 
-counted-things : (ts : List Thing) → Grammar ts → counted (itemsOf (encodeAll ts)) ≡ Items (length ts)
-unfolding counted
-counted-things ts g = rw (reads ts g, records-count 0 0 ts)
+read-things : (ts : List Thing) → Grammar ts → ReadAs (encodeAll ts) (length ts)
+read-things ts g = (recordsFrom 0 0 ts, length (encodeAll ts), reads ts g, records-count 0 0 ts)
 
 pub items-count : ItemsCount
-items-count o os n = (things-counted o os n, λ w. rw (w .2, ← w .3) (counted-things (w .0) (w .1)))
+items-count o os n = (things-read o os n, λ w. rw (w .2, ← w .3) (read-things (w .0) (w .1)))
 
 -- ---- left to right
 pub items-left-to-right : ItemsLeftToRight
-items-left-to-right o more x short whole closed e = of-refused (itemsOf (o ++ more)) x (items-front o more x whole closed short (refused-of (itemsOf o) x e))
+items-left-to-right o more x short whole closed e = items-front o more x whole closed short e
 
 -- ---- records
 pub items-records : ItemsRecords
@@ -156,7 +137,8 @@ times-octets zero x h = octets-none
 times-octets (suc n) x h = octets-more x (times n x) h (times-octets n x h)
 
 nulls-counted : (n : ℕ) → Grammar (nulls n) → counted (itemsOf (times n 0)) ≡ Items n
-nulls-counted n g = rw (← nulls-octets n) (counted-things (nulls n) g ∙ rw (nulls-length n))
+unfolding counted
+nulls-counted n g = let e = reads (nulls n) g in rw (← nulls-octets n, e, records-count 0 0 (nulls n), nulls-length n)
 
 nulls-grammar : Grammar (nulls 2048)
 nulls-grammar =
@@ -192,10 +174,14 @@ nulls-open =
     octets : 62 ∷ times 2047 0 ≡ encodeAll (opening 3 ∷ nulls 2047) ++ []
     octets = ap (λ (l : List ℕ). 62 ∷ l) (sym (nulls-octets 2047)) ∙ sym (opening-octets (nulls 2047)) ∙ sym (append-nil (encodeAll (opening 3 ∷ nulls 2047)))
 
+refused : (o : List ℕ) {x : ℕ} → itemsOf o ≡ bad x → Refuses o x
+unfolding counted
+refused o e = rw e
+
 pub items-most : ItemsMost
 items-most =
     record {
       most = nulls-counted 2048 nulls-grammar;
-      over = λ r os some short. item-rows (times 2048 0 ++ r) (octets-join (times 2048 0) r (times-octets 2048 0 (omega arith)) os) 38 .1 (nulls-over r some short);
-      unclosed = item-rows (62 ∷ times 2047 0) (octets-more 62 (times 2047 0) (omega arith) (times-octets 2047 0 (omega arith))) 36 .1 nulls-open;
+      over = λ r os some short. refused (times 2048 0 ++ r) (item-rows (times 2048 0 ++ r) (octets-join (times 2048 0) r (times-octets 2048 0 (omega arith)) os) 38 .1 (nulls-over r some short));
+      unclosed = refused (62 ∷ times 2047 0) (item-rows (62 ∷ times 2047 0) (octets-more 62 (times 2047 0) (omega arith) (times-octets 2047 0 (omega arith))) 36 .1 nulls-open);
     }

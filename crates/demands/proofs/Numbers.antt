@@ -63,6 +63,20 @@ module _ {A : Type 0} (not : ℕ → A) (apart : (n : ℕ) → not n ≡ not 39 
       let h = ltb-false _ _ t in
       (λ n q. (let z = within h n q in (omega (arith, z .0), omega (arith, z .1))), (λ q. absurd (omega (arith, within h 39 q .1)), λ l. absurd (omega arith))))
 
+-- the reading's own
+bad-walk : (n : ℕ) (o : Out) → OutHas Row o → o ≡ bad n → Row n
+bad-walk n o h e = subst (OutHas Row) e h
+
+pub tags-numbers : (s : List ℕ) → ((n : ℕ) → itemsOf s ≡ bad n → Between 30 39 n) × ((itemsOf s ≡ bad 39) ↔ (longest < length s))
+unfolding itemsOf
+tags-numbers s =
+    thirty-nine bad (λ n e. cc) s (itemsOf s)
+    (λ h. rw (lt-ltb _ _ h))
+    (λ h n q. bad-walk n (walk mostItems s 0 []) (walk-has Row rows mostItems s 0 []) (rw (le-ltb _ _ h) at q))
+
+pub bad-row : (s : List ℕ) (n : ℕ) → itemsOf s ≡ bad n → Between 30 39 n
+bad-row s = tags-numbers s .0
+
 pub count-numbers : CountNumbers
 unfolding itemsOf counted
 count-numbers s =

@@ -14,7 +14,7 @@ use Rattle.octets.specs.Laid.{laid-one, laid-fault, laid-short, laid-over, laid
 use Rattle.octets.specs.Splice.{splice, splice-front, splice-length, splice-behind}
 use Rattle.octets.specs.declared.Written.the-variants.{Wrote, Refused}
 use Rattle.items.specs.Records.{Rec, recordsOctets}
-use Rattle.items.specs.Reading.{Out, itemsOf, counted}
+use Rattle.items.specs.Reading.{Out, itemsOf}
 use Rattle.items.specs.Reading.Out.{good, bad}
 use Rattle.items.specs.Listing.{listedOf, listing}
 use Rattle.items.specs.declared.Tally.{Tally}
@@ -65,8 +65,8 @@ sixty-two records source os = (
 module _ (area later : List ℕ) (r : Tally) where
   abbrev ListedBy : Out → Type 0
   ListedBy o =
-      ((n : ℕ) → counted o ≡ Tally.Refused n → (r ≡ Tally.Refused n) × (later ≡ area))
-      × ((k : ℕ) → counted o ≡ Tally.Items k
+      ((n : ℕ) → o ≡ bad n → (r ≡ Tally.Refused n) × (later ≡ area))
+      × ((k : ℕ) → ((rs : List Rec) × (end : ℕ) × (o ≡ good rs end) × (length rs ≡ k))
       → (length area < 12 * k → (r ≡ Tally.Refused 61) × (later ≡ area))
       × (12 * k ≤ length area → (r ≡ Tally.Items k) × (length later ≡ length area) × (drop (12 * k) later ≡ drop (12 * k) area)))
 
@@ -90,8 +90,7 @@ module _ (area later : List ℕ) (r : Tally) where
   listed-bad x n e d z = (e ∙ ap Tally.Refused z, d)
 
   listed-by : (o : Out) → r ≡ listedOf (length area) o → later ≡ listing area o → ListedBy o
-  unfolding counted
-  listed-by (good rs end) e d = (λ n q. (impossible (cc)), λ k q. listed-good rs end k e d (let y : length rs ≡ k = cc in sym y))
+  listed-by (good rs end) e d = (λ n q. (impossible (cc)), λ k w. listed-good rs end k e d (let y : w .0 ≡ rs = cc (w .2) in sym (w .3) ∙ ap length y))
   listed-by (bad x) e d = (λ n q. listed-bad x n e d (let y : x ≡ n = cc in y), λ k q. (impossible (cc)))
 
 pub listing-refuses : ListingRefuses

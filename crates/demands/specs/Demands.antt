@@ -45,9 +45,9 @@ use Rattle.tags.specs.Types.{longest}
 use Rattle.tags.specs.Reading.{headAt}
 use Rattle.tags.specs.Layout as Tags
 use Rattle.items.specs.Grammar as Items
-use Rattle.items.specs.Reading.{itemsOf, counted, itemAt, oneAt, endOf}
+use Rattle.items.specs.Reading.{Out as ItemsRead, itemsOf, counted, itemAt, oneAt, endOf}
 use Rattle.items.specs.Records.{thingsOf}
-use Rattle.items.specs.Listing.{Listed}
+use Rattle.items.specs.Listing.{ReadAs, Listed}
 use Rattle.items.specs.declared.Tally.{Tally}
 use Rattle.items.specs.declared.One.{One as OneItem}
 use Rattle.item_judge.specs.Judge.{writeFault, recordsIn}
@@ -157,8 +157,8 @@ ItemNumbers = (s : List ℕ) (at : ℕ)
 -- services: "Tag refusals 30 to 39 come before 43 and 40 to 42"; 43 exactly for a "choice not above for that PDU"
 abbrev pub ServiceNumbers : Type 0
 ServiceNumbers = (kind choice : ℕ) (s : List ℕ)
-    → ((n : ℕ) → counted (itemsOf s) ≡ Tally.Refused n → readService kind choice s ≡ ServiceAnswer.Answer.Refused n)
-    × ((k : ℕ) → counted (itemsOf s) ≡ Tally.Items k
+    → ((n : ℕ) → itemsOf s ≡ ItemsRead.bad n → readService kind choice s ≡ ServiceAnswer.Answer.Refused n)
+    × ((k : ℕ) → ReadAs s k
     → ((n : ℕ) → readService kind choice s ≡ ServiceAnswer.Answer.Refused n → Between 40 43 n)
     × ((readService kind choice s ≡ ServiceAnswer.Answer.Refused 43) ↔ ((m : ServiceLayout.Message) → Services.For kind choice m → ⊥)))
 
@@ -188,11 +188,11 @@ SixtyTwo = (records source : List ℕ) → Octets source
 abbrev pub SixtyOne : Type 0
 SixtyOne = (f : ℕ) (o area later : List ℕ) (r : Written) → (f ≡ 61 → ⊥) → Laid f o area r later → (r ≡ Refused 61) ↔ ((f ≡ 0) × (length area < length o))
 
--- listing: counting's number, or 61 exactly where its 12 octets an item do not fit; refused, it leaves the area, else it changes 12 octets an item
+-- listing: the number of its tags, or 61 exactly where its 12 octets an item do not fit; refused, it leaves the area, else it changes 12 octets an item
 abbrev pub ListingRefuses : Type 0
 ListingRefuses = (s area later : List ℕ) (r : Tally) → Listed s area r later
-    → ((n : ℕ) → counted (itemsOf s) ≡ Tally.Refused n → (r ≡ Tally.Refused n) × (later ≡ area))
-    × ((k : ℕ) → counted (itemsOf s) ≡ Tally.Items k
+    → ((n : ℕ) → itemsOf s ≡ ItemsRead.bad n → (r ≡ Tally.Refused n) × (later ≡ area))
+    × ((k : ℕ) → ReadAs s k
     → (length area < 12 * k → (r ≡ Tally.Refused 61) × (later ≡ area))
     × (12 * k ≤ length area → (r ≡ Tally.Items k) × (length later ≡ length area) × (drop (12 * k) later ≡ drop (12 * k) area)))
 

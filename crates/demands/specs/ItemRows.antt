@@ -9,9 +9,9 @@ use Rattle.tags.specs.Layout.{Thing}
 use Rattle.tags.specs.Layout.Thing.{application, boolean, context, opening, closing}
 use Rattle.items.specs.Records.{Rec, rec, recordOctets, recordsOctets}
 use Rattle.items.specs.Reading.{itemsOf, counted}
-use Rattle.items.specs.Reading.Out.{good}
+use Rattle.items.specs.Reading.Out.{good, bad}
 use Rattle.items.specs.Grammar.{encodeAll, Grammar, recordsFrom}
-use Rattle.items.specs.Listing.{Listed, listing}
+use Rattle.items.specs.Listing.{ReadAs, Listed, listing}
 use Rattle.items.specs.Rows.{Row}
 use Rattle.items.specs.declared.Tally.{Tally}
 use Rattle.demands.specs.Words.{One}
@@ -20,7 +20,7 @@ use Rattle.demands.specs.Words.{One}
 -- (judged first)"; else, behind good items with their groups open (GoodFront): 38 "a 2,049th item begins", 35 "closing tag without the same number
 -- innermost", 37 "opening with 16 open", 36 "end with a group open", and 30 to 34 as at one tag (TagRows).
 abbrev pub ItemRows : Type 0
-ItemRows = (o : List ℕ) → Octets o → (x : ℕ) → (counted (itemsOf o) ≡ Tally.Refused x) ↔ Row x o
+ItemRows = (o : List ℕ) → Octets o → (x : ℕ) → (itemsOf o ≡ bad x) ↔ Row x o
 
 -- ---- any octets are exactly one thing: good items with every group closed (0), or what one row says. The reading is not named here.
 abbrev pub Verdict : List ℕ → ℕ → Type 0
@@ -29,14 +29,14 @@ Verdict o x = ((x ≡ 0) × ((ts : List Thing) × Grammar ts × (o ≡ encodeAll
 abbrev pub ItemsOneRow : Type 0
 ItemsOneRow = (o : List ℕ) → Octets o → One ℕ (Verdict o)
 
--- a run is counted as n items exactly when it is n good items with every group closed
+-- a run is read as n items exactly when it is n good items with every group closed
 abbrev pub ItemsCount : Type 0
-ItemsCount = (o : List ℕ) → Octets o → (n : ℕ) → (counted (itemsOf o) ≡ Tally.Items n) ↔ ((ts : List Thing) × Grammar ts × (o ≡ encodeAll ts) × (length ts ≡ n))
+ItemsCount = (o : List ℕ) → Octets o → (n : ℕ) → ReadAs o n ↔ ((ts : List Thing) × Grammar ts × (o ≡ encodeAll ts) × (length ts ≡ n))
 
 -- ---- "Octets are judged left to right": a number other than those of a missing octet (30, 36) stands, whatever follows within 16,384 octets
 abbrev pub ItemsLeftToRight : Type 0
 ItemsLeftToRight = (o more : List ℕ) (x : ℕ) → length (o ++ more) ≤ 16384 → (x ≡ 30 → ⊥) → (x ≡ 36 → ⊥)
-    → counted (itemsOf o) ≡ Tally.Refused x → counted (itemsOf (o ++ more)) ≡ Tally.Refused x
+    → itemsOf o ≡ bad x → itemsOf (o ++ more) ≡ bad x
 
 -- ---- "Reading writes one 12-octet record an item": the records of items of the grammar, from place 0 and depth 0, and no others
 abbrev pub ItemsRecords : Type 0

@@ -6,11 +6,15 @@ use lib.ListN.{length}
 use lib.Dec.{ltb}
 use Rattle.octets.specs.Choice.{pick}
 use Rattle.octets.specs.Splice.{splice}
-use Rattle.items.specs.Records.{recordsOctets}
+use Rattle.items.specs.Records.{Rec, recordsOctets}
 use Rattle.items.specs.Reading.{Out, itemsOf}
 use Rattle.items.specs.Reading.Out.{good, bad}
 use Rattle.items.specs.declared.Tally.{Tally}
 use Rattle.items.specs.declared.Tally.the-variants.{Items}
+
+-- the octets are read as n items
+abbrev pub ReadAs : List ℕ → ℕ → Type 0
+ReadAs s n = (rs : List Rec) × (end : ℕ) × (itemsOf s ≡ good rs end) × (length rs ≡ n)
 
 unfoldable pub listedOf : ℕ → Out → Tally
 listedOf size (good rs end) = pick (ltb size (length (recordsOctets rs))) (Tally.Refused 61) (Items (length rs))
