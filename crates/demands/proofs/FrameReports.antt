@@ -18,7 +18,7 @@ use Rattle.apdu.specs.declared.Edition.{Edition}
 use Rattle.apdu.specs.declared.Answer as Apdu
 use Rattle.apdu.specs.declared.Answer.the-variants.{Good, Refused}
 use Rattle.apdu.specs.declared.Pdu.{Pdu}
-use Rattle.items.specs.Reading.{Out as Tags, itemsOf}
+use Rattle.items.specs.Reading.{Out as ItemsRead, itemsOf}
 use Rattle.items.specs.Listing.{ReadAs}
 use Rattle.trunk.specs.Reading.Out.{good}
 use Rattle.reports.specs.Layout.{reportOctets}
@@ -49,12 +49,12 @@ module _ (edition : Edition) (h d : List ℕ) where
     tags-good : {n : ℕ} → ReadAs t n → plainAt edition (good h d) ≡ kind3 h (oct a 0) (invokeIn p) (choiceIn p) (length a)
     tags-good w = said ∙ ap reportOctets (Content.tags-good fine (w .2)) ∙ report-laid fine
 
-    tags-bad : {n : ℕ} → itemsOf t ≡ Tags.bad n → plainAt edition (good h d) ≡ kind6 h n
+    tags-bad : {n : ℕ} → itemsOf t ≡ ItemsRead.bad n → plainAt edition (good h d) ≡ kind6 h n
     tags-bad {n} e = said ∙ ap reportOctets (Content.tags-bad fine e) ∙ report-laid (refusal (heardOf edition h .frame) n)
 
-    by-tags : {o : List ℕ} (y : Tags) → itemsOf t ≡ y → segIn p ≡ false → plainAt edition (good h d) ≡ o → PlainReport edition h d o
-    by-tags (Tags.good rs end) e s q = let w : ReadAs t (length rs) = (rs, end, e, refl) in PlainReport.apdu a p t (length rs) c s w (sym q ∙ tags-good w)
-    by-tags (Tags.bad n) e s q = PlainReport.tags-refused a p t n c s e (sym q ∙ tags-bad e)
+    by-tags : {o : List ℕ} (y : ItemsRead) → itemsOf t ≡ y → segIn p ≡ false → plainAt edition (good h d) ≡ o → PlainReport edition h d o
+    by-tags (ItemsRead.good rs end) e s q = let w : ReadAs t (length rs) = (rs, end, e, refl) in PlainReport.apdu a p t (length rs) c s w (sym q ∙ tags-good w)
+    by-tags (ItemsRead.bad n) e s q = PlainReport.tags-refused a p t n c s e (sym q ∙ tags-bad e)
 
   -- ---- the report of any that carries no segment
   other-told : (FiveOrSix h → ⊥) → plainAt edition (good h d) ≡ kind1 h (length d)

@@ -20,7 +20,7 @@ use Rattle.apdu.specs.declared.Answer as Apdu
 use Rattle.apdu.specs.declared.Answer.the-variants.{Good, Refused}
 use Rattle.apdu.specs.declared.Pdu.{Pdu}
 use Rattle.apdu.specs.declared.Pdu.the-variants.{Request, Unconfirmed, SimpleAck, ComplexAck, SegmentAck, Error, Reject, Abort}
-use Rattle.items.specs.Reading.{Out as Tags, itemsOf}
+use Rattle.items.specs.Reading.{Out as ItemsRead, itemsOf}
 use Rattle.items.specs.Listing.{ReadAs}
 use Rattle.trunk.specs.Reading.Out.{good}
 use Rattle.messages.specs.Slots.{Segment, part, room}
@@ -145,16 +145,16 @@ module _ (edition : Edition) (h d a : List ℕ) (g : Segment Key) where
           complete-said i n ∙ ap reportOctets (tags-good (complete (heardOf edition h .frame) (named a g) i n) (w .2))
           ∙ report-laid (complete (heardOf edition h .frame) (named a g) i n)
 
-      bad-said : {x : ℕ} → itemsOf (part (room * i) n area) ≡ Tags.bad x → answeredAt edition (good h d) (completed i n) area ≡ kind6 h x
+      bad-said : {x : ℕ} → itemsOf (part (room * i) n area) ≡ ItemsRead.bad x → answeredAt edition (good h d) (completed i n) area ≡ kind6 h x
       bad-said {x} e =
           complete-said i n ∙ ap reportOctets (tags-bad (complete (heardOf edition h .frame) (named a g) i n) e)
           ∙ report-laid (refusal (heardOf edition h .frame) x)
 
-      by-its-tags : {o : List ℕ} (y : Tags) → itemsOf (part (room * i) n area) ≡ y → answeredAt edition (good h d) (completed i n) area ≡ o
+      by-its-tags : {o : List ℕ} (y : ItemsRead) → itemsOf (part (room * i) n area) ≡ y → answeredAt edition (good h d) (completed i n) area ≡ o
           → SegmentReport h a g (completed i n) area o
-      by-its-tags (Tags.good rs end) e q =
+      by-its-tags (ItemsRead.good rs end) e q =
           let w : ReadAs (part (room * i) n area) (length rs) = (rs, end, e, refl) in SegmentReport.complete i n (length rs) refl w (sym q ∙ whole-said w)
-      by-its-tags (Tags.bad x) e q = SegmentReport.bad-tags i n x refl e (sym q ∙ bad-said e)
+      by-its-tags (ItemsRead.bad x) e q = SegmentReport.bad-tags i n x refl e (sym q ∙ bad-said e)
 
     answer-reported : {o : List ℕ} (w : Answer) → answeredAt edition (good h d) w area ≡ o → SegmentReport h a g w area o
     answer-reported (refused x) q = SegmentReport.not-taken x refl (sym q ∙ refused-said x)
