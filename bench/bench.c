@@ -7,6 +7,7 @@
      bench empty FILE CALLS RUNS LESS   feeds as `run` does, then makes so many calls with an empty piece, and says nothing
      bench header CALLS OCTETS     makes so many calls that run the header's check over so many octets, and says nothing
      bench data CALLS OCTETS       the same of the data's check
+     bench items CALLS ITEMS LENT  makes so many calls that list so many items, so many octets lent for each (the plain one counts them), and says nothing
      bench sizes                   the size of the state
      bench stacks                  the stack of each call but hb_feed (the proved library alone)
      bench run FILE PIECE RUNS [LESS]   feeds the first RUNS runs of octets (silences and forget orders end a run), the last LESS octets of the
@@ -39,6 +40,7 @@ static int silence(void) { return plain_silence(&state, report); }
 static void forget(uint8_t slot) { plain_forget(&state, slot); }
 static void header_run(const uint8_t *s, size_t n) { plain_header_run(0xFF, s, n); }
 static void data_run(const uint8_t *s, size_t n) { plain_data_run(0xFFFF, s, n); }
+static void list(const uint8_t *s, size_t n, size_t lent) { (void)lent; plain_items(s, n); }
 #else
 #include "proved.h"
 #endif
@@ -205,6 +207,13 @@ static void sums(void (*run)(const uint8_t *, size_t), size_t calls, size_t n)
     while (calls--) run(octets, n);
 }
 
+/* Listing by itself, over unsigned numbers side by side. */
+static void items(size_t calls, size_t n, size_t lent)
+{
+    for (size_t i = 0; i < n; i++) octets[2 * i] = 0x21, octets[2 * i + 1] = 0x05;
+    while (calls--) list(octets, 2 * n, lent * n);
+}
+
 /* ---- the stack: painted, used, read back */
 
 static uint8_t stack[STACK] __attribute__((aligned(16)));
@@ -248,11 +257,15 @@ static int begin(int argc, char **argv)
     }
     if (argc < 4) {
         say("usage: bench [later] reports FILE PIECE | stack FILE PIECE | run FILE PIECE RUNS | empty FILE CALLS RUNS LESS |\n"
-            "       header CALLS OCTETS | data CALLS OCTETS | sizes\n");
+            "       header CALLS OCTETS | data CALLS OCTETS | items CALLS ITEMS LENT | sizes\n");
         return 2;
     }
     if (same(mode, "header") || same(mode, "data")) {
         sums(same(mode, "header") ? header_run : data_run, number_of(argv[2]), number_of(argv[3]));
+        return 0;
+    }
+    if (same(mode, "items")) {
+        items(number_of(argv[2]), number_of(argv[3]), argc < 5 ? 0 : number_of(argv[4]));
         return 0;
     }
     load(argv[2]);

@@ -3,6 +3,11 @@ static uint8_t state[HB_STATE];
 static void fresh(void) { hb_fresh(state, HB_STATE, later); }
 static void header_run(const uint8_t *s, size_t n) { hb_header_run(0xFF, s, n); }
 static void data_run(const uint8_t *s, size_t n) { hb_data_run(0xFFFF, s, n); }
+static void list(const uint8_t *s, size_t n, size_t lent)
+{
+    size_t count;
+    hb_items_list(s, n, area, lent, &count);
+}
 #ifdef REPLAYED
 static void leave(int status);
 static size_t replay(const uint8_t *records, size_t n, int *reported)

@@ -22,8 +22,8 @@ DEEP(deep_npdu_read, hb_npdu_read(deep_npdu, sizeof deep_npdu, deep_fields, HB_N
 DEEP(deep_npdu_write, hb_npdu_write(deep_fields, HB_NPDU, deep_out, sizeof deep_out, &deep_number))
 DEEP(deep_apdu_read, hb_apdu_read(deep_apdu, sizeof deep_apdu, 1, deep_fields, HB_APDU, &deep_number))
 DEEP(deep_apdu_write, hb_apdu_write(deep_fields, HB_APDU, 1, deep_out, sizeof deep_out, &deep_number))
-DEEP(deep_items_count, hb_items_count(deep_items, sizeof deep_items, &deep_number))
 DEEP(deep_items_list, hb_items_list(deep_items, sizeof deep_items, deep_list, sizeof deep_list, &deep_number))
+DEEP(deep_items_judged, hb_items_list(deep_items, sizeof deep_items, deep_list, 0, &deep_number))
 DEEP(deep_item_next, hb_item_next(deep_items, sizeof deep_items, 0, &deep_number))
 DEEP(deep_item_step, hb_item_step(deep_items, sizeof deep_items, 0, deep_fields, HB_ITEM, &deep_number))
 DEEP(deep_items_write, hb_items_write(deep_list, sizeof deep_list, deep_items, sizeof deep_items, deep_out, sizeof deep_out, &deep_number))
@@ -36,7 +36,7 @@ static void stacks(size_t (*used_by)(void (*)(void)))
         {"hb_fresh", deep_fresh}, {"hb_silence", deep_silence}, {"hb_forget", deep_forget},
         {"hb_header_check, hb_header_run", deep_header_check}, {"hb_data_check, hb_data_run", deep_data_check},
         {"hb_npdu_read", deep_npdu_read}, {"hb_npdu_write", deep_npdu_write}, {"hb_apdu_read", deep_apdu_read}, {"hb_apdu_write", deep_apdu_write},
-        {"hb_items_count", deep_items_count}, {"hb_items_list", deep_items_list}, {"hb_item_next", deep_item_next}, {"hb_item_step", deep_item_step},
+        {"hb_items_list", deep_items_list}, {"hb_items_list, lent no octets", deep_items_judged}, {"hb_item_next", deep_item_next}, {"hb_item_step", deep_item_step},
         {"hb_items_write", deep_items_write}, {"hb_service_read", deep_service_read}, {"hb_service_write", deep_service_write}};
     for (int i = 0; i < 16; i++) deep_items[i] = 0x3E, deep_items[sizeof deep_items - 1 - i] = 0x3F;
     for (int i = 0; i < 5; i++) deep_items[16 + i] = deep_real[i];

@@ -339,23 +339,49 @@ static void editions_compared(void)
 
 /* ---- tag items: the parameters of the ReadProperty ack of 004 ---- */
 
+/* One call that is lent so many octets of EE: its number, its count, and the records that it writes; all behind them is as it was. */
+static void listed(struct octets o, size_t lent, uint8_t number, size_t items, struct octets records)
+{
+    uint8_t got[sizeof records.s], wanted[sizeof records.s];
+    size_t count = 99;
+    memset(got, 0xEE, sizeof got);
+    memset(wanted, 0xEE, sizeof wanted);
+    memcpy(wanted, records.s, records.n);
+    want(hb_items_list(o.s, o.n, got, lent, &count) == number && count == items);
+    want(memcmp(got, wanted, sizeof got) == 0);
+}
+
 static void items(void)
 {
-    struct octets o = of("0C 00 00 00 01 19 55 3E 44 42 39 99 9A 3F"), bad = of("3E 4F");
+    struct octets o = of("0C 00 00 00 01 19 55 3E 44 42 39 99 9A 3F"), none = of(""), last = o;
     struct octets r = of("01 00 00 00 00 00 00 01 00 00 00 04  01 01 00 00 00 00 00 06 00 00 00 01  02 03 00 00 00 00 00 08 00 00 00 00"
                          "00 04 01 00 00 00 00 09 00 00 00 04  03 03 00 00 00 00 00 0E 00 00 00 00");
     static const uint8_t nulls[HB_SLOT + 1]; /* one octet more than 16,384 */
-    uint8_t listed[5 * HB_ITEM], item[HB_ITEM], out[16];
+    uint8_t records[5 * HB_ITEM], item[HB_ITEM], out[16];
     size_t count, next, wrote, met = 0;
 
-    want(hb_items_count(o.s, o.n, &count) == 0 && count == 5);
-    want(hb_items_count(bad.s, bad.n, &count) == HB_ITEM_CLOSING && count == 0);
-    tell("hb_items_count");
-
-    want(hb_items_list(o.s, o.n, listed, sizeof listed, &count) == 0 && count == 5);
-    want_octets(listed, sizeof listed, r);
-    want(hb_items_list(o.s, o.n, listed, sizeof listed - 1, &count) == HB_SMALL && count == 0);
-    want(hb_items_list(bad.s, 1, listed, sizeof listed, &count) == HB_ITEM_OPEN && count == 0);
+    /* no octets are lent: 61 says that all tags are good, and how many items there are; then 12 octets are lent for each */
+    want(hb_items_list(o.s, o.n, records, 0, &count) == HB_SMALL && count == 5);
+    want(hb_items_list(o.s, o.n, records, HB_ITEM * count, &count) == 0 && count == 5);
+    want_octets(records, sizeof records, r);
+    /* 61: below 12 octets an item; the area need not be a multiple of 12 */
+    listed(o, r.n + 11, 0, 5, r);
+    listed(o, r.n, 0, 5, r);
+    listed(o, r.n - 1, HB_SMALL, 5, none);
+    listed(o, 0, HB_SMALL, 5, none);
+    /* no items: no octets are needed */
+    listed(none, 0, 0, 0, none);
+    listed(none, 36, 0, 0, none);
+    /* tags first, however short or long the area: an item that ends early, a group left open, the last closing of another number */
+    listed(of("3E 44"), 0, HB_ITEM_ENDS, 0, none);
+    listed(of("3E"), r.n, HB_ITEM_OPEN, 0, none);
+    last.s[o.n - 1] = 0x4F;
+    listed(last, 0, HB_ITEM_CLOSING, 0, none);
+    listed(last, r.n, HB_ITEM_CLOSING, 0, none);
+    /* the most items, one more, one octet more than 16,384 */
+    want(hb_items_list(nulls, 2048, out, 0, &count) == HB_SMALL && count == 2048);
+    want(hb_items_list(nulls, 2049, out, 0, &count) == HB_ITEM_COUNT && count == 0);
+    want(hb_items_list(nulls, sizeof nulls, out, 0, &count) == HB_ITEM_OCTETS && count == 0);
     tell("hb_items_list");
 
     want(hb_item_next(o.s, o.n, 0, &next) == 0 && next == 5);

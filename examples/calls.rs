@@ -135,18 +135,40 @@ unsafe extern "C" fn apdu_write(s: *const u8, n: usize, out: *mut u8, size: usiz
     unsafe { hb_apdu_write(s, n, 0, out, size, wrote) }
 }
 
-// The items of a ReadProperty ack, and the service.
+// One call that lists items: its number and its count.
+fn list(octets: &[u8], area: &mut [u8]) -> (u8, usize) {
+    let mut count = 99;
+    let number = unsafe { hb_items_list(octets.as_ptr(), octets.len(), area.as_mut_ptr(), area.len(), &mut count) };
+    (number, count)
+}
+
+// The items of a ReadProperty ack. No octets are lent: 61 with the count needed. Then 12 octets an item: an octet too few, tags refused, and all of them.
+fn items() -> bool {
+    let (o, first) = (of("0C 00 00 00 01 19 55 3E 44 42 39 99 9A 3F"), of("01 00 00 00 00 00 00 01 00 00 00 04"));
+    let (number, count) = list(&o, &mut []);
+    let mut area = vec![0xEEu8; HB_ITEM * count];
+    (number, count) == (HB_SMALL, 5)
+        && list(&o, &mut area[1..]) == (HB_SMALL, 5)
+        && list(&of("3E 4F"), &mut area) == (HB_ITEM_CLOSING, 0)
+        && list(&of("3E 44"), &mut []) == (HB_ITEM_ENDS, 0)
+        && list(&[], &mut []) == (0, 0)
+        && list(&[], &mut area) == (0, 0)
+        && area.iter().all(|x| *x == 0xEE)
+        && list(&o, &mut area) == (0, 5)
+        && area[..HB_ITEM] == first[..]
+}
+
+// The same by steps and written back, and the service.
 fn params() -> bool {
     let o = of("0C 00 00 00 01 19 55 3E 44 42 39 99 9A 3F");
     let wanted = of("01 00 00 00 00 00 00 01 00 00 00 55 00 00 00 00 00 00 00 08 00 00 00 05 00 00");
     let (mut listed, mut item, mut fields, mut out) = ([0u8; 5 * HB_ITEM], [0u8; HB_ITEM], [0u8; HB_SERVICE], [0u8; 16]);
-    let (mut count, mut all, mut next, mut to, mut wrote, mut again) = (0, 0, 0, 0, 0, 0);
+    let (mut next, mut to, mut wrote, mut again) = (0, 0, 0, 0);
     unsafe {
-        hb_items_count(o.as_ptr(), o.len(), &mut count) == 0
-            && hb_items_list(o.as_ptr(), o.len(), listed.as_mut_ptr(), listed.len(), &mut all) == 0
+        list(&o, &mut listed) == (0, 5)
             && hb_item_next(o.as_ptr(), o.len(), 7, &mut next) == 0
             && hb_item_step(o.as_ptr(), o.len(), 7, item.as_mut_ptr(), item.len(), &mut to) == 0
-            && (count, all, next, to) == (5, 5, 14, 14)
+            && (next, to) == (14, 14)
             && item[..] == listed[2 * HB_ITEM..3 * HB_ITEM]
             && hb_items_write(listed.as_ptr(), listed.len(), o.as_ptr(), o.len(), out.as_mut_ptr(), out.len(), &mut wrote) == 0
             && out[..wrote] == o[..]
@@ -166,6 +188,7 @@ fn main() {
         && header(hb_npdu_read, hb_npdu_write, "01 20 FF FF 00 FF 10 08", 6, npdu)
         && header(apdu_read, apdu_write, "02 03 00 0C 0C 00 00 00 01 19 55", 4, "00 00 00 01 00 00 03 00 00 00 0C 00 00")
         && editions()
+        && items()
         && params();
     std::process::exit(!good as i32);
 }

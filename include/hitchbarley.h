@@ -4,23 +4,24 @@
 
    Areas. A slice is a pointer and then its length. Every area is lent for the call alone; no two areas of a call overlap. Nothing is kept between calls and
    nothing is allocated, so calls for several trunks may be made at once, each with areas of its own. A length of 0 with any pointer is fine, but the pointer
-   is not null by the language's rules: pass the address of any octet. (A null pointer with length 0 was tried in 18 calls and did no harm; nothing promises it.)
+   is not null by the language's rules: pass the address of any octet. (A null pointer with length 0 was tried in each call and did no harm; nothing promises it.)
 
-   Numbers. Every call but the check sums answers 0 or the number of a refusal. On a refusal no area changes, and every number given back is 0. So after 59,
-   60 and 68 *eaten is 0, and so it is after a 67 that is offered again: a loop that offers the rest of its piece must look at the answer, or it never ends.
+   Numbers. Every call but the check sums answers 0 or the number of a refusal. On a refusal no area changes, and every number given back is 0, with the two
+   exceptions below. So after 59, 60 and 68 *eaten is 0, and so it is after a 67 that is offered again: a loop that offers the rest of its piece must look at
+   the answer, or it never ends.
    60 is a mistake in the program, an area of another size: also a state that an older version left, of 547 octets or 546. 59 is a state area that was not made by
    hb_fresh or was written by somebody else: make it anew by hb_fresh; what was half received is lost, and only that.
-   hb_replay's 67 is the one exception: the records before the bad one were eaten, state and message area are as after them, *eaten is their number; the report
-   area is as it was and *reported is 0.
+   Exceptions. hb_replay's 67: the records before the bad one were eaten, state and message area are as after them, *eaten is their number; the report area is
+   as it was and *reported is 0. hb_items_list's 61: *count is the count needed, 1 to 2,048, and no area changes; so look at the answer before you read *count
+   records. Every other call's 61 gives 0 back.
 
    Editions. Confirmed requests are read and written by the edition of 1995, or by the later one, which uses bits 6 to 4 of their second octet for the
    segments that the sender accepts (the table at hb_apdu_read); by that of 1995 these bits are zero bits, and 22 where they are not. The argument `later`
    chooses: 0 is 1995, any other number the later edition. A trunk's edition is chosen at hb_fresh and kept in its state; no call changes it. Read a header
    that stands in the state area by the edition that the trunk has. The editions differ in those three bits and nowhere else.
 
-   Stack. Measured, in octets: hb_replay 4,640; hb_feed 3,712; hb_service_read 3,472; hb_items_list 3,120; hb_items_count 3,072; hb_item_step 3,024;
-   hb_item_next 2,976; hb_forget 1,294; hb_service_write 1,104; hb_data_check and hb_data_run 544; hb_fresh 530; every other call below 500
-   (docs/PERFORMANCE.md).
+   Stack. Measured, in octets: hb_replay 4,640; hb_feed 3,712; hb_service_read 3,504; hb_items_list 3,104; hb_item_step 3,024; hb_item_next 2,976;
+   hb_forget 1,294; hb_service_write 1,104; hb_data_check and hb_data_run 544; hb_fresh 530; every other call below 500 (docs/PERFORMANCE.md).
 
    What each call promises is proved; its statement stands in crates/hitchbarley/src, with the definitions in specs. */
 #ifndef HITCHBARLEY_H
@@ -28,7 +29,7 @@
 #include <stddef.h>
 #include <stdint.h>
 
-#define HB_VERSION "1.5"
+#define HB_VERSION "1.6"
 #define HB_KIT "rattle-kit-5" /* the release that this version is proved and compiled with */
 
 #ifdef __cplusplus
@@ -116,7 +117,7 @@ enum {
     HB_NO_STATE = 59,  /* octets that are no state's; a state in header or data with nothing left to come, or in data with a length of 0 or above 501; a slot
                           holding over 16,384; two open slots of one key; an open slot whose network addresses no network header gives */
     HB_NO_AREA = 60,   /* a state, report, message or record area of another size */
-    HB_SMALL = 61,     /* output area smaller than the result */
+    HB_SMALL = 61,     /* output area smaller than the result; hb_items_list gives the count needed with it */
     HB_NO_READING = 62, /* records that are the reading of no octets */
 
     /* recorded trunks */
@@ -203,10 +204,12 @@ uint8_t hb_apdu_write(const uint8_t *fields, size_t fields_len, uint8_t later, u
 
 /* ---- tag items ---- */
 
-/* How many items the octets are: 0 or 30 to 39. */
-uint8_t hb_items_count(const uint8_t *octets, size_t octets_len, size_t *count);
-
-/* The items' records, one after the other, and their count: 0, 30 to 39 or 61. A record:
+/* The items' records, one after the other, and their count: 0, 30 to 39 or 61.
+     0         *count items; their records stand at the front of the area, HB_ITEM octets each, and what lies behind them is as it was
+     30 to 39  tags refused, judged first, however short the area is: *count is 0 and nothing is written
+     61        all tags are good and the area is shorter than HB_ITEM octets an item: *count is the count needed, 1 to 2,048, and nothing is written
+   No items are 0 with *count 0, whatever the area. So to count items, or only to judge them, lend no octets (a pointer that is not null, and the length 0):
+   0 says that there are no items, 61 that all tags are good. The area need not be a multiple of 12; one of 24,576 octets is never too short. A record:
      0  kind (0 application, 1 context, 2 opening, 3 closing)     1  number     2  depth     3  boolean value, else 0
      4 - 7  place of the contents, the octet after the tag     8 - 11  their length, high octet first both */
 uint8_t hb_items_list(const uint8_t *octets, size_t octets_len, uint8_t *listed, size_t listed_len, size_t *count);
@@ -214,7 +217,7 @@ uint8_t hb_items_list(const uint8_t *octets, size_t octets_len, uint8_t *listed,
 /* Walking items: from place 0 hb_item_next or hb_item_step gives the place after one item, and after the whole group where it opens one, until the end. Both
    judge 39 first, at the end too (hb_item_step after 60). At or past the end hb_item_next is 30 and hb_item_step is 0 with *next 0. A closing tag at the place is 35. To go into a group,
    step on from the place in its opening's record (octets 4 to 7) until 35: that is its closing. 36 to 38 are of the one item with its group, depth and count
-   beginning at the step's own place; hb_items_count judges all items together. */
+   beginning at the step's own place; hb_items_list, lent no octets, judges all items together. */
 
 /* The place after the item at a place, and after its whole group where it opens one: 0 or 30 to 39. */
 uint8_t hb_item_next(const uint8_t *octets, size_t octets_len, size_t at, size_t *next);

@@ -7,7 +7,7 @@
 //!     rustc -L target/staticlib -l static=hitchbarley
 #![allow(dead_code)]
 
-pub const HB_VERSION: &str = "1.5";
+pub const HB_VERSION: &str = "1.6";
 /// the release that this version is proved and compiled with
 pub const HB_KIT: &str = "rattle-kit-5";
 
@@ -122,7 +122,7 @@ pub const HB_NOT_OPEN: u8 = 56;
 pub const HB_NO_STATE: u8 = 59;
 /// a state, report, message or record area of another size
 pub const HB_NO_AREA: u8 = 60;
-/// output area smaller than the result
+/// output area smaller than the result; hb_items_list gives the count needed with it: to count or to judge items, lend it no octets
 pub const HB_SMALL: u8 = 61;
 /// records that are the reading of no octets
 pub const HB_NO_READING: u8 = 62;
@@ -169,7 +169,6 @@ unsafe extern "C" {
     pub fn hb_npdu_write(fields: *const u8, fields_len: usize, out: *mut u8, out_len: usize, wrote: *mut usize) -> u8;
     pub fn hb_apdu_read(octets: *const u8, octets_len: usize, later: u8, fields: *mut u8, fields_len: usize, next: *mut usize) -> u8;
     pub fn hb_apdu_write(fields: *const u8, fields_len: usize, later: u8, out: *mut u8, out_len: usize, wrote: *mut usize) -> u8;
-    pub fn hb_items_count(octets: *const u8, octets_len: usize, count: *mut usize) -> u8;
     pub fn hb_items_list(octets: *const u8, octets_len: usize, listed: *mut u8, listed_len: usize, count: *mut usize) -> u8;
     pub fn hb_item_next(octets: *const u8, octets_len: usize, at: usize, next: *mut usize) -> u8;
     pub fn hb_item_step(octets: *const u8, octets_len: usize, at: usize, item: *mut u8, item_len: usize, next: *mut usize) -> u8;

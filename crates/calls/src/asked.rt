@@ -16,19 +16,18 @@ fn header(k: u8, later: u8, octets: &[u8], out: &mut [u8], n: &mut usize) -> u8 
     }
 }
 
-// items-count, items-list, item-next, item-step
+// items-list, item-next, item-step
 fn item(k: u8, octets: &[u8], at: usize, out: &mut [u8], n: &mut usize) -> u8 {
     match k {
-        4 => item_calls::hb_items_count(octets, n),
-        5 => item_calls::hb_items_list(octets, out, n),
-        6 => item_calls::hb_item_next(octets, at, n),
+        4 => item_calls::hb_items_list(octets, out, n),
+        5 => item_calls::hb_item_next(octets, at, n),
         _ => item_calls::hb_item_step(octets, at, out, n),
     }
 }
 
 // items-write, service-write
 fn write(k: u8, records: &[u8], source: &[u8], out: &mut [u8], n: &mut usize) -> u8 {
-    if k == 8 {
+    if k == 7 {
         return item_calls::hb_items_write(records, source, out, n);
     }
     service_calls::hb_service_write(records, source, out, n)
@@ -45,10 +44,10 @@ fn made(k: u8, s: &[u8], one: &[u8], two: &[u8], out: &mut [u8], n: &mut usize) 
     if k < 4 {
         return header(k, text::edition(s), one, out, n);
     }
-    if k < 8 {
+    if k < 7 {
         return item(k, one, text::first(s), out, n);
     }
-    if k < 10 {
+    if k < 9 {
         return write(k, one, two, out, n);
     }
     read(s, one, out)
@@ -57,9 +56,9 @@ fn made(k: u8, s: &[u8], one: &[u8], two: &[u8], out: &mut [u8], n: &mut usize) 
 // How many octets the line lends for output.
 fn size(k: u8, s: &[u8]) -> usize {
     match k {
-        4 | 6 => 0,
-        7 => text::second(s),
-        10 => text::third(s),
+        5 => 0,
+        6 => text::second(s),
+        9 => text::third(s),
         _ => text::first(s),
     }
 }
@@ -67,9 +66,9 @@ fn size(k: u8, s: &[u8]) -> usize {
 // The number that the call gives back.
 fn number(k: u8, n: usize) {
     match k {
-        0 | 2 | 6 | 7 => print::named(b" next ", n),
-        4 | 5 => print::named(b" count ", n),
-        10 => {}
+        0 | 2 | 5 | 6 => print::named(b" next ", n),
+        4 => print::named(b" count ", n),
+        9 => {}
         _ => print::named(b" wrote ", n),
     }
 }
@@ -77,9 +76,9 @@ fn number(k: u8, n: usize) {
 // The area that it was lent.
 fn area(k: u8, out: &[u8]) {
     match k {
-        0 | 2 | 7 | 10 => print::area(b"  record", out),
-        5 => print::area(b"  records", out),
-        4 | 6 => {}
+        0 | 2 | 6 | 9 => print::area(b"  record", out),
+        4 => print::area(b"  records", out),
+        5 => {}
         _ => print::area(b"  out", out),
     }
 }

@@ -26,10 +26,10 @@ fn pair(x: u16) {
 // header-check, header-run, data-check, data-run, receiver
 fn made(k: u8, register: usize, octets: &[u8]) {
     match k {
-        11 => octet(sum_calls::hb_header_check(octets)),
-        12 => octet(sum_calls::hb_header_run((register % 256) as u8, octets)),
-        13 => pair(sum_calls::hb_data_check(octets)),
-        14 => pair(sum_calls::hb_data_run((register % 65536) as u16, octets)),
+        10 => octet(sum_calls::hb_header_check(octets)),
+        11 => octet(sum_calls::hb_header_run((register % 256) as u8, octets)),
+        12 => pair(sum_calls::hb_data_check(octets)),
+        13 => pair(sum_calls::hb_data_run((register % 65536) as u16, octets)),
         _ => receiver::all(octets),
     }
 }

@@ -14,25 +14,25 @@ mod trunk;
 
 use trunk::Sizes;
 
-// The number of the line's name: 0 to 10 are asked.rt's, 11 to 15 checks.rt's, 16 to 26 trunk.rt's; above where it is none of these.
+// The number of the line's name: 0 to 9 are asked.rt's, 10 to 14 checks.rt's, 15 to 25 trunk.rt's; above where it is none of these.
 fn name(s: &[u8]) -> u8 {
     text::index(
         s,
-        b"npdu-read npdu-write apdu-read apdu-write items-count items-list item-next item-step items-write service-write service-read header-check header-run data-check data-run receiver fresh state area silence forget feed frame show-state show-area area-at replay",
+        b"npdu-read npdu-write apdu-read apdu-write items-list item-next item-step items-write service-write service-read header-check header-run data-check data-run receiver fresh state area silence forget feed frame show-state show-area area-at replay",
     )
 }
 
 // What the line gives.
 fn answer(k: u8, s: &[u8], z: Sizes, state: &mut [u8; 700], area: &mut [u8; 65537]) -> Sizes {
-    if k < 11 {
+    if k < 10 {
         asked::line(k, s);
         return z;
     }
-    if k < 16 {
+    if k < 15 {
         checks::line(k, s);
         return z;
     }
-    if k < 27 {
+    if k < 26 {
         return trunk::line(k, s, z, state, area);
     }
     show::text(b"  ?\n");

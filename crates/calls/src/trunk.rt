@@ -33,13 +33,13 @@ fn fresh(size: usize, later: u8, state: &mut [u8]) -> usize {
 
 // The sizes after a line that sets an area.
 fn set(k: u8, s: &[u8], z: Sizes, state: &mut [u8], area: &mut [u8]) -> Sizes {
-    if k == 16 {
+    if k == 15 {
         return Sizes {
             state: fresh(text::first(s), text::edition(s), state),
             area: z.area,
         };
     }
-    if k == 17 {
+    if k == 16 {
         return Sizes {
             state: text::group(s, state),
             area: z.area,
@@ -133,7 +133,7 @@ fn framed(s: &[u8], out: &mut [u8]) -> usize {
 
 // The octets of the line, or of the frame that it is.
 fn piece(k: u8, s: &[u8], out: &mut [u8]) -> usize {
-    if k == 21 {
+    if k == 20 {
         return text::group(s, out);
     }
     framed(s, out)
@@ -178,8 +178,8 @@ fn lay(s: &[u8], area: &mut [u8]) {
 // show-state, show-area, area-at
 fn shown(k: u8, s: &[u8], state: &[u8], area: &mut [u8]) {
     match k {
-        23 => print::area(b"  state", state),
-        24 => print::area(b"  area", area),
+        22 => print::area(b"  state", state),
+        23 => print::area(b"  area", area),
         _ => lay(s, area),
     }
 }
@@ -187,17 +187,17 @@ fn shown(k: u8, s: &[u8], state: &[u8], area: &mut [u8]) {
 // A line that leaves the areas' sizes.
 fn called(k: u8, s: &[u8], state: &mut [u8], area: &mut [u8]) {
     match k {
-        19 => silence(text::first(s), state),
-        20 => forget(text::first(s), state),
-        21 | 22 => feed(k, s, state, area),
-        26 => replay(s, state, area),
+        18 => silence(text::first(s), state),
+        19 => forget(text::first(s), state),
+        20 | 21 => feed(k, s, state, area),
+        25 => replay(s, state, area),
         _ => shown(k, s, state, area),
     }
 }
 
 // The areas' sizes after the line.
 pub fn line(k: u8, s: &[u8], z: Sizes, state: &mut [u8], area: &mut [u8]) -> Sizes {
-    if k < 19 {
+    if k < 18 {
         return set(k, s, z, state, area);
     }
     let n = text::within(state, z.state);

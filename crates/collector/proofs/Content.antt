@@ -8,7 +8,7 @@ use lib.Dec.{lit≤}
 use lib.ListN.{length, take, drop, length-drop}
 use lib.Seq.{take-length}
 use borrow.Author.Tests.{lt-ltb, le-ltb, eq-eqb, ne-eqb}
-use Rattle.octets.specs.Choice.{given-true, given-false, given-cases, impossible}
+use Rattle.octets.specs.Choice.{given-true, given-false, given-cases}
 use Rattle.octets.specs.Reading.{oct}
 use Rattle.npdu.specs.Reading.{readNpdu}
 use Rattle.npdu.specs.declared.Reading.{Reading}
@@ -21,10 +21,14 @@ use Rattle.apdu.specs.declared.Pdu.{Pdu}
 use Rattle.apdu.specs.declared.Pdu.the-variants.{Request, Unconfirmed, SimpleAck, ComplexAck, SegmentAck, Error, Reject, Abort}
 use Rattle.apdu.specs.declared.Answer.{Answer}
 use Rattle.apdu.specs.declared.Answer.the-variants.{Good, Refused}
-use Rattle.items.specs.Reading.{Out, itemsOf, counted}
+use Rattle.items.specs.Records.{Rec}
+use Rattle.items.specs.Reading.{Out, itemsOf}
 use Rattle.items.specs.Reading.Out.{good, bad}
+use Rattle.items.specs.Listing.{refusalIn, Listed}
 use Rattle.items.specs.declared.Tally.{Tally}
-use Rattle.items.specs.declared.Tally.the-variants.{Items}
+use Rattle.items.specs.declared.Tally.the-variants.{Items, Small}
+use Rattle.items.proofs.Cases.{items-say, small-says, refused-says}
+use Rattle.items.proofs.Refusals.{OutHas, items-have}
 use Rattle.messages.specs.Slots.{part}
 use Rattle.rebuild.specs.View as View
 use Rattle.rebuild.specs.declared.Step as Steps
@@ -97,24 +101,39 @@ pub parts-within : (edition : Edition) (a : List ℕ) {x : Answer} (p : Pdu) {m 
 unfolding partsOf
 parts-within edition a p e q k = rw k (params-within edition a p (sym e ∙ q))
 
--- tags by their count
-tags-good : (x : Out) (fine : Report) (n : ℕ) → counted x ≡ Items n → byTags x fine ≡ fine
-unfolding counted
-tags-good (good rs end) fine n e = refl
-tags-good (bad y) fine n e = impossible (cc)
+-- the report by the tags
+pub tags-good : {x : Out} (fine : Report) {rs : List Rec} {end : ℕ} → x ≡ good rs end → byTags x fine ≡ fine
+tags-good fine e = rw e
 
-tags-bad : (x : Out) (fine : Report) (y : ℕ) → counted x ≡ Tally.Refused y → byTags x fine ≡ refusal (fine .frame) y
-unfolding counted
-tags-bad (good rs end) fine y e = impossible (cc)
-tags-bad (bad z) fine y e = let q : z ≡ y = cc in ap (refusal (fine .frame)) q
+pub tags-bad : {x : Out} (fine : Report) {y : ℕ} → x ≡ bad y → byTags x fine ≡ refusal (fine .frame) y
+tags-bad fine e = rw e
 
--- the report by the tags, y being the answer of counting them
-module _ (x : Out) (fine : Report) {y : Tally} {report : List ℕ} (e : y ≡ counted x) where
-  pub tags-put : {n : ℕ} → y ≡ Items n → report ≡ reportOctets fine → report ≡ reportOctets (byTags x fine)
-  tags-put {n} q h = h ∙ ap reportOctets (sym (tags-good x fine n (sym e ∙ q)))
+-- the tags' number by the answer y of listing them, whatever it was lent
+module _ (s area later : List ℕ) {y : Tally} (w : Listed s area y later) where
+  pub number-good : {n : ℕ} → y ≡ Items n → 0 ≡ refusalIn (itemsOf s)
+  number-good q = rw (items-say s area later y w q .0 .2)
 
-  pub tags-turn : {n : ℕ} {r : Report} → y ≡ Tally.Refused n → r ≡ refusal (fine .frame) n → report ≡ reportOctets r → report ≡ reportOctets (byTags x fine)
-  tags-turn {n} q k h = h ∙ ap reportOctets (k ∙ sym (tags-bad x fine n (sym e ∙ q)))
+  -- 61 taken as good
+  pub number-small : {n : ℕ} → y ≡ Small n → 0 ≡ refusalIn (itemsOf s)
+  number-small q = rw (small-says s area later y w q .0 .2)
+
+  pub number-bad : {n : ℕ} → y ≡ Tally.Refused n → n ≡ refusalIn (itemsOf s)
+  number-bad q = rw (refused-says s area later y w q)
+
+-- and the report by that number x, which is 0 of good tags alone
+by-number : (fine : Report) (o : Out) → OutHas (λ n. 30 ≤ n) o → (x : ℕ) → x ≡ refusalIn o → (x ≡ 0 → byTags o fine ≡ fine) × ((x ≡ 0 → ⊥) → byTags o fine ≡ refusal (fine .frame) x)
+by-number fine (good rs end) h x e = (λ z. refl, λ z. absurd (z e))
+by-number fine (bad y) h x e = (λ z. absurd (omega arith), λ z. ap (refusal (fine .frame)) (sym e))
+
+module _ (s : List ℕ) (fine : Report) {x : ℕ} (e : x ≡ refusalIn (itemsOf s)) where
+  numbers : (x ≡ 0 → byTags (itemsOf s) fine ≡ fine) × ((x ≡ 0 → ⊥) → byTags (itemsOf s) fine ≡ refusal (fine .frame) x)
+  numbers = by-number fine (itemsOf s) (items-have (λ n. 30 ≤ n) (λ n low high. low) s) x e
+
+  pub tags-put : {report : List ℕ} → x ≡ 0 → report ≡ reportOctets fine → report ≡ reportOctets (byTags (itemsOf s) fine)
+  tags-put z h = h ∙ ap reportOctets (sym (numbers .0 z))
+
+  pub tags-turn : {r : Report} {report : List ℕ} → (x ≡ 0 → ⊥) → r ≡ refusal (fine .frame) x → report ≡ reportOctets r → report ≡ reportOctets (byTags (itemsOf s) fine)
+  tags-turn z k h = h ∙ ap reportOctets (k ∙ sym (numbers .1 z))
 
 -- ---- parts of a slice, as the code lends them
 pub part-rest : (s : List ℕ) (at : ℕ) → take (length s - at) (drop at s) ≡ drop at s

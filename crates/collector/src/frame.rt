@@ -23,6 +23,7 @@ ghost use Rattle.octets.specs.Reading.{oct};
 ghost use Rattle.npdu.specs.Reading.{readNpdu};
 ghost use Rattle.apdu.specs.Reading.{readApdu};
 ghost use Rattle.items.specs.Reading.{itemsOf};
+ghost use Rattle.items.specs.Listing.{refusalIn};
 ghost use Rattle.rebuild.specs.View.{view};
 ghost use Rattle.reports.specs.Layout.{reportSize, reportOctets};
 ghost use Rattle.reports.specs.Kinds.{damaged, refusal};
@@ -47,20 +48,30 @@ fn put_refusal(out: &mut [u8], w: Heard, n: u8)
     reports::put(Report::refusal(frame, n), out);
 }
 
+// The number of a tag's refusal, 0 where every tag is good. It only checks: no octets are lent for the records, and 61 is as good as success.
+fn tag_number(params: &[u8]) -> u8
+    ensures { λ r. ⌜ r ≡ refusalIn (itemsOf (now (params .entry))) ⌝ }
+{
+    let mut none = [0u8; 0];
+    match items::list(params, &mut none) {
+        Tally::Items(_) => 0,
+        Tally::Small(_) => 0,
+        Tally::Refused(x) => x,
+    }
+}
+
 // "its tags good", or kind 6 with the tag number.
 fn put_by_tags(out: &mut [u8], params: &[u8], r: Report)
     requires { ⌜ length (now out) ≡ reportSize ⌝ }
     ensures { λ _. ⌜ now (out .exit) ≡ reportOctets (byTags (itemsOf (now (params .entry))) r) ⌝ }
 {
-    match items::count(params) {
-        Tally::Items(_) => {
-            reports::put(r, out);
-        }
-        Tally::Refused(x) => {
-            let frame = r.frame;
-            reports::put(Report::refusal(frame, x), out);
-        }
+    let x = tag_number(params);
+    if x == 0 {
+        reports::put(r, out);
+        return;
     }
+    let frame = r.frame;
+    reports::put(Report::refusal(frame, x), out);
 }
 
 // The report of a segment, from its answer and the area after it.

@@ -125,7 +125,6 @@ one-answer =
       npdu-write = λ h out. laid _ _ out;
       apdu-read = λ e s. equal _ _;
       apdu-write = λ e p out. laid _ _ out;
-      items-count = λ s. equal _ _;
       items-list = λ s out. listed s out;
       items-item-at = λ s at. equal _ _;
       items-whole-at = λ s at. equal _ _;

@@ -3,7 +3,7 @@
 use Prim.Native.Nat.{ℕ, _+_, _-_, _*_, _/_, _≤_, _<_}
 use native.Mathlib.Omega.{arith}
 use mathlib.Core.Path.{_≡_, refl, sym, ap, subst, _∙_}
-use mathlib.Core.Logic.{_↔_, _⊎_, inl, inr}
+use mathlib.Core.Logic.{_↔_}
 use mathlib.Core.Bool.{true, false}
 use mathlib.Core.List.{List, [], _∷_, _++_, append-nil}
 use mathlib.Core.Option.{Option, none, some}
@@ -27,7 +27,7 @@ use Rattle.apdu.specs.declared.Edition.{Edition}
 use Rattle.apdu.specs.declared.Answer as Apdu
 use Rattle.apdu.specs.declared.Answer.the-variants.{Good, Refused}
 use Rattle.items.specs.Reading as Items
-use Rattle.items.specs.Reading.{itemsOf, counted}
+use Rattle.items.specs.Reading.{itemsOf}
 use Rattle.items.specs.Reading.Out.{good, bad}
 use Rattle.messages.specs.Slots.{Segment, Slot, Box, boxed, room, part}
 use Rattle.messages.specs.Rows as Rows
@@ -67,8 +67,8 @@ use Rattle.hitchbarley.proofs.Offerable as Offerable
 use Rattle.demands.specs.Words.{Between, SegmentChanges}
 use Rattle.demands.specs.Completed.{kindIn, numberIn, slotIn, lengthIn, Names, tagNumber, answerIn, reportAt, segmentEnding, heardEntry, heardKey, heardForget, heardLog, heardFrom}
 use Rattle.demands.specs.Completed.{Whole, WholeButTags, OfSegment, AsReported, CompletedAsReported, CompletedOverOctets, BegunExactly, StartsHeard, StartsRecorded, CanBeLinked}
-use Rattle.demands.proofs.Numbers.{count-numbers}
-use Rattle.demands.proofs.Segments.{segment-does}
+use Rattle.demands.proofs.Numbers.{bad-row}
+use Rattle.demands.proofs.Segments.{refusal-row, segment-does}
 use Rattle.demands.proofs.HeardKeys.{Alike, Same, same-said, Tied, tied-start, tied-said, tied-forget}
 use Rattle.demands.proofs.HeardKeys.Alike.{both-refused, both-taken, both-completed}
 use Rattle.demands.proofs.Three.{read-by-position, can-be-offered, reached-passes}
@@ -114,10 +114,6 @@ length-back : (r : Report) → r .length ≤ 16384 → valueAt (reportOctets r) 
 unfolding reportOctets valueAt
 length-back r h = rw (digits-four (r .length)) (omega arith)
 
-bad-row : (s : List ℕ) (x : ℕ) → itemsOf s ≡ bad x → Between 30 39 x
-unfolding counted
-bad-row s x e = count-numbers s .0 x (ap counted e)
-
 -- a report of a segment names four parts of its key
 named : (w : Heard) (v : Route) (m : Parts) → Typed m → (r : Report) → r .frame ≡ w .frame → r .apdu ≡ m .apdu → Names (reportOctets r) (keyOf w v m)
 unfolding reportOctets
@@ -134,11 +130,7 @@ told-tags w v m i n area (bad x) e h ok = faulty i n refl refl (bad-row (part (r
 module _ (w : Heard) (v : Route) (m : Parts) (a : List ℕ) (ok : Typed m) (g : Segment Key) (is : segmentFrom w v m a ≡ g) (b : Box Key) where
   by-answer : (x : Answer) (slots : List (Slot Key)) (area : List ℕ) → SegmentChanges g b x slots area → Told (g .key) x area (reportOctets (stepReport w m (stepOf x) area))
   unfolding reportOctets
-  by-answer (refused n) slots area h = not-taken n refl (row (h .1)) refl refl
-    where
-      row : {A B : Type 0} → (Between 50 53 n × A) ⊎ ((n ≡ 54) × B) → Between 50 54 n
-      row (inl x) = (x .0 .0, omega (arith, x .0 .1))
-      row (inr x) = (omega (arith, x .0), omega (arith, x .0))
+  by-answer (refused n) slots area h = not-taken n refl (refusal-row (h .1)) refl refl
   by-answer (taken i n) slots area h =
       more i n refl refl refl (subst (λ (g : Segment Key). Names (reportOctets (segmentTaken (w .frame) (m .apdu) i n)) (g .key)) is (named w v m ok (segmentTaken (w .frame) (m .apdu) i n) refl refl))
   by-answer (completed i n) slots area h =

@@ -21,7 +21,7 @@ use Rattle.apdu.specs.Fault as HeaderFault
 use Rattle.apdu.specs.declared.Answer.{Answer as HeaderAnswer}
 use Rattle.apdu.specs.declared.Answer.the-variants as HeaderIs
 use Rattle.items.specs.Reading.{itemsOf}
-use Rattle.items.specs.Listing.{listedOf}
+use Rattle.items.specs.Listing.{tallyNumber, tallyCount, listedOf}
 use Rattle.item_judge.specs.Judge.{recordsIn, goodRecords, writeFault}
 use Rattle.reader.specs.Reading.{stepOf}
 use Rattle.reader.specs.declared.Step.{Step}
@@ -52,7 +52,7 @@ use Rattle.state.proofs.Exact.{loads-only, accepted}
 use Rattle.hitchbarley.specs.Trunk.{Left, barred, stateOf, bar, inside, feedBar, feedLeft, silenceBar, silenceLeft, forgotten, forgetLeft, Feeds, Stills, Forgets}
 use Rattle.hitchbarley.specs.Answers.{writtenNumber, writtenCount, Writes, Fills, FillsTo}
 use Rattle.hitchbarley.specs.Headers.{apduGood, apduNumber, apduOctets, apduParams, npduFault, apduFault}
-use Rattle.hitchbarley.specs.Items.{tallyNumber, tallyCount, oneNumber, onePlace, stepGood, stepNumber, stepRecord, stepPlace}
+use Rattle.hitchbarley.specs.Items.{oneNumber, onePlace, stepGood, stepNumber, stepRecord, stepPlace}
 use Rattle.hitchbarley.specs.Services.{serviceGood, serviceNumber, serviceOctets, serviceFault}
 use Rattle.hitchbarley.proofs.Demand.{inside-is, feeds-carried, stills-carried, forgets-carried}
 use Rattle.demands.specs.Words.{SixtyThenFiftyNine, Broken, Four}
@@ -62,7 +62,8 @@ use Rattle.demands.proofs.Numbers.{network-numbers, header-numbers, ite
 use Rattle.demands.proofs.ServiceNumbers.{service-writer-numbers}
 use Rattle.demands.proofs.Changes.{feed-refused, silence-refused, forget-refused}
 use Rattle.demands.proofs.One.{writers-refuse}
-use Rattle.demands.specs.Exported.{Holding, BadState, TrunkCall, Carried, ForgetCall, ReadsInto, WritesFrom, ExportedFresh, ExportedFeed, ExportedSilence, ExportedForget, ExportedNpduRead, ExportedApduRead, ExportedStep, ExportedServiceRead, ExportedCount, ExportedList, ExportedNext, ExportedNpduWrite, ExportedApduWrite, ExportedItemsWrite, ExportedServiceWrite}
+use Rattle.demands.proofs.Listing.{list-numbers}
+use Rattle.demands.specs.Exported.{Holding, BadState, TrunkCall, Carried, ForgetCall, ReadsInto, WritesFrom, ExportedFresh, ExportedFeed, ExportedSilence, ExportedForget, ExportedNpduRead, ExportedApduRead, ExportedStep, ExportedServiceRead, ExportedList, ExportedNext, ExportedNpduWrite, ExportedApduWrite, ExportedItemsWrite, ExportedServiceWrite}
 
 -- two numbers are not one
 pub differ : {X : Type 0} {n : ℕ} (a b : ℕ) → eqb a b ≡ false → n ≡ a → n ≡ b → X
@@ -499,16 +500,12 @@ exported-service-read kind choice s fields r fields′ y =
     (λ x e. number ∙ ap serviceNumber e, λ v e. (number ∙ ap serviceNumber e, record-below y n (ap serviceGood e) ∙ ap serviceOctets e)))
 
 -- ---- items
-pub exported-count : ExportedCount
-exported-count s r count y = (
-  λ n e. (y .number ∙ ap tallyNumber e, y .items ∙ ap tallyCount e),
-  λ x e. (y .number ∙ ap tallyNumber e, y .items ∙ ap tallyCount e),
-)
-
 pub exported-list : ExportedList
 exported-list s area r count later y = (
+  rw (y .number, y .items) (list-numbers s area later (listedOf (length area) (itemsOf s)) (record { answer = refl; after = y .after })),
   listedOf (length area) (itemsOf s),
   record { answer = refl; after = y .after },
+  λ n e. (y .number ∙ ap tallyNumber e, y .items ∙ ap tallyCount e),
   λ n e. (y .number ∙ ap tallyNumber e, y .items ∙ ap tallyCount e),
   λ x e. (y .number ∙ ap tallyNumber e, y .items ∙ ap tallyCount e),
 )

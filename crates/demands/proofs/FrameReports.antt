@@ -18,16 +18,15 @@ use Rattle.apdu.specs.declared.Edition.{Edition}
 use Rattle.apdu.specs.declared.Answer as Apdu
 use Rattle.apdu.specs.declared.Answer.the-variants.{Good, Refused}
 use Rattle.apdu.specs.declared.Pdu.{Pdu}
-use Rattle.items.specs.Reading.{itemsOf, counted}
-use Rattle.items.specs.declared.Tally.{Tally}
-use Rattle.items.specs.declared.Tally.the-variants.{Items}
+use Rattle.items.specs.Reading.{Out as ItemsRead, itemsOf}
+use Rattle.items.specs.Listing.{ReadAs}
 use Rattle.trunk.specs.Reading.Out.{good}
 use Rattle.reports.specs.Layout.{reportOctets}
 use Rattle.reports.specs.Kinds.{otherFrame, unsegmented, refusal, networkMessage}
 use Rattle.reports.specs.declared.Report.{Report}
 use Rattle.collector.specs.Heard.{heardOf, partsOf}
 use Rattle.collector.specs.Frame.{byTags, segmentAt, plainAt}
-use Rattle.collector.proofs.Content.{tags-put, tags-turn}
+use Rattle.collector.proofs.Content as Content
 use Rattle.demands.specs.Reported.{ReportLaid, FiveOrSix, Behind, Carries, PlainReport, FrameReports, kind1, kind3, kind6, kind7, invokeIn, choiceIn, segIn}
 use Rattle.demands.proofs.FrameContent.{told, parts-told, parts-seg, parts-params, five-or-six, is-other, is-refused, is-network, is-bad, is-message, behind, segment-by, plain-by}
 
@@ -47,15 +46,15 @@ module _ (edition : Edition) (h d : List ℕ) where
     pub unsegmented-none : segIn p ≡ false → segmentAt edition (good h d) ≡ none
     unsegmented-none e = segment-by edition h d (is-message edition h d c) ∙ given-false (partsOf p (oct a 0) .segment .seg) _ _ (parts-seg p (oct a 0) ∙ e)
 
-    tags-good : {n : ℕ} → counted (itemsOf t) ≡ Items n → plainAt edition (good h d) ≡ kind3 h (oct a 0) (invokeIn p) (choiceIn p) (length a)
-    tags-good e = said ∙ sym (tags-put (itemsOf t) fine refl e refl) ∙ report-laid fine
+    tags-good : {n : ℕ} → ReadAs t n → plainAt edition (good h d) ≡ kind3 h (oct a 0) (invokeIn p) (choiceIn p) (length a)
+    tags-good w = said ∙ ap reportOctets (Content.tags-good fine (w .2)) ∙ report-laid fine
 
-    tags-bad : {n : ℕ} → counted (itemsOf t) ≡ Tally.Refused n → plainAt edition (good h d) ≡ kind6 h n
-    tags-bad {n} e = said ∙ sym (tags-turn (itemsOf t) fine refl e refl refl) ∙ report-laid (refusal (heardOf edition h .frame) n)
+    tags-bad : {n : ℕ} → itemsOf t ≡ ItemsRead.bad n → plainAt edition (good h d) ≡ kind6 h n
+    tags-bad {n} e = said ∙ ap reportOctets (Content.tags-bad fine e) ∙ report-laid (refusal (heardOf edition h .frame) n)
 
-    by-tags : {o : List ℕ} (y : Tally) → counted (itemsOf t) ≡ y → segIn p ≡ false → plainAt edition (good h d) ≡ o → PlainReport edition h d o
-    by-tags (Items n) e s q = PlainReport.apdu a p t n c s e (sym q ∙ tags-good e)
-    by-tags (Tally.Refused n) e s q = PlainReport.tags-refused a p t n c s e (sym q ∙ tags-bad e)
+    by-tags : {o : List ℕ} (y : ItemsRead) → itemsOf t ≡ y → segIn p ≡ false → plainAt edition (good h d) ≡ o → PlainReport edition h d o
+    by-tags (ItemsRead.good rs end) e s q = let w : ReadAs t (length rs) = (rs, end, e, refl) in PlainReport.apdu a p t (length rs) c s w (sym q ∙ tags-good w)
+    by-tags (ItemsRead.bad n) e s q = PlainReport.tags-refused a p t n c s e (sym q ∙ tags-bad e)
 
   -- ---- the report of any that carries no segment
   other-told : (FiveOrSix h → ⊥) → plainAt edition (good h d) ≡ kind1 h (length d)
@@ -79,7 +78,7 @@ module _ (edition : Edition) (h d : List ℕ) where
   by-apdu {a} (Refused n) e k z q = PlainReport.apdu-refused a n k e (sym q ∙ bad-told k e)
   by-apdu {a} (Good p) e k z q =
       let c : Carries edition h d a p (drop (paramsAt p) a) = record { behind = k; read = (e, refl) } in
-      by-test (segIn p) (λ s. absurd (seg-is c s z)) (λ s. by-tags a (drop (paramsAt p) a) p c (counted (itemsOf (drop (paramsAt p) a))) refl s q)
+      by-test (segIn p) (λ s. absurd (seg-is c s z)) (λ s. by-tags a (drop (paramsAt p) a) p c (itemsOf (drop (paramsAt p) a)) refl s q)
 
   by-npdu : {o : List ℕ} → FiveOrSix h → segmentAt edition (good h d) ≡ none → plainAt edition (good h d) ≡ o → PlainReport edition h d o
   by-npdu t z q =

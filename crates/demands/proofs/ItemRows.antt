@@ -1,104 +1,101 @@
 -- The rows 30 to 39 over a run of items, and its records: what the statements of specs/ItemRows say, from the laws of items.
-use Prim.Native.Nat.{ℕ, zero, suc, _+_, _≤_, _<_}
+use Prim.Native.Nat.{ℕ, zero, suc, _+_, _-_, _≤_, _<_}
 use native.Mathlib.Omega.{arith}
 use mathlib.Core.Path.{_≡_, refl, sym, ap, subst, _∙_}
 use mathlib.Core.Logic.{inl, inr}
 use mathlib.Core.List.{List, [], _∷_, _++_, append-nil}
 use lib.ListN.{length, length-append}
-use Rattle.octets.specs.Choice.{impossible}
 use Rattle.octets.specs.Reading.{Octets}
 use Rattle.octets.specs.Every.{octets-none, octets-more, octets-join}
-use Rattle.octets.specs.Numbers.{digits}
+use Rattle.octets.specs.Numbers.{digits, digits-four}
 use Rattle.octets.specs.Splice.{splice}
 use Rattle.tags.specs.Types.{least, most}
 use Rattle.tags.specs.Reading.{numberAt, twoAt, fourAt, lengthAt, firstRule, firstContent, wholeAt, signBad, signedAt, contentsAt, contextAt, applicationAt, headAt}
 use Rattle.tags.specs.Layout.{Thing, Valid, encode, goodContents, highBits, numberOctets, lowBits, lengthOctets, tagLength}
-use Rattle.tags.specs.Layout.Thing.{application, opening}
-use Rattle.items.specs.Records.{Rec, recordOctets, recordsOctets}
-use Rattle.items.specs.Reading.{Out, more, ending, closes, step, walk, itemsOf, counted}
+use Rattle.tags.specs.Layout.Thing.{application, opening, closing}
+use Rattle.tags.proofs.Exact.{encode-length}
+use Rattle.items.specs.Records.{rec, recordOctets, recordsOctets}
+use Rattle.items.specs.Reading.{Out, more, ending, closes, step, walk, itemsOf}
 use Rattle.items.specs.Reading.Out.{good, bad}
 use Rattle.items.specs.Grammar.{encodeAll, Balanced, AllValid, Grammar, recordOf, recordsFrom}
-use Rattle.items.specs.Listing.{listing}
+use Rattle.items.specs.Listing.{refusalIn, ReadAs, listedOf, listing, Listed}
 use Rattle.items.specs.Rows.{Leads, Row}
 use Rattle.items.specs.Rows.Behind.{one-more, ends-open}
 use Rattle.items.specs.Rows.Row.{offends}
-use Rattle.items.specs.declared.Tally.{Tally}
-use Rattle.items.specs.declared.Tally.the-variants.{Items}
+use Rattle.items.proofs.Cases.{small-given, refused-given}
 use Rattle.items.proofs.Exact.{reads, written}
 use Rattle.items.proofs.LeftToRight.{items-front}
-use Rattle.items.proofs.ListedRecords.{records-count, records-listed, listed-written}
+use Rattle.items.proofs.ListedRecords.{records-count, read-things, records-listed, listed-written}
 use Rattle.items.proofs.Rows.{rows-exact}
-use Rattle.demands.specs.ItemRows.{ItemRows, Verdict, ItemsOneRow, ItemsCount, ItemsLeftToRight, ItemsRecords, ListedRecords, RecordsWorked, times, ItemsWorked, ItemsMost}
-
--- ---- the number that counting gives is the reading's
-refused-of : (q : Out) (x : ℕ) → counted q ≡ Tally.Refused x → q ≡ bad x
-unfolding counted
-refused-of (good rs end) x e = impossible (cc)
-refused-of (bad y) x e = let z : y ≡ x = cc in ap bad z
-
-of-refused : (q : Out) (x : ℕ) → q ≡ bad x → counted q ≡ Tally.Refused x
-unfolding counted
-of-refused q x e = rw e
+use Rattle.demands.specs.ItemRows.{ItemRows, Verdict, ItemsOneRow, ItemsCount, ItemsLeftToRight, ItemsRecords, ListedRecords, RecordsOf, RecordsLaid, RecordsWorked, Needs, Refuses, times, ItemsWorked, ItemsMost}
 
 pub item-rows : ItemRows
-item-rows o os x = (λ e. rows-exact o os x .0 (refused-of (itemsOf o) x e), λ w. of-refused (itemsOf o) x (rows-exact o os x .1 w))
+item-rows = rows-exact
 
 -- ---- exactly one
--- a refusal's number, 0 of what is read
-abbrev numberOf : Out → ℕ
-numberOf (good rs end) = 0
-numberOf (bad x) = x
-
 module _ (o : List ℕ) (os : Octets o) where
-  verdict : (q : Out) → itemsOf o ≡ q → Verdict o (numberOf q)
+  verdict : (q : Out) → itemsOf o ≡ q → Verdict o (refusalIn q)
   verdict (good rs end) e = let w = written o os rs end e in inl (refl, (w .things, w .grammar, w .octets))
   verdict (bad x) e = inr (rows-exact o os x .0 e)
 
-  verdict-is : (x : ℕ) → Verdict o x → x ≡ numberOf (itemsOf o)
-  verdict-is x (inl (z, (ts, g, e))) = z ∙ sym (ap numberOf (ap itemsOf e ∙ reads ts g))
-  verdict-is x (inr w) = sym (ap numberOf (rows-exact o os x .1 w))
+  verdict-is : (x : ℕ) → Verdict o x → x ≡ refusalIn (itemsOf o)
+  verdict-is x (inl (z, (ts, g, e))) = z ∙ sym (ap refusalIn (ap itemsOf e ∙ reads ts g))
+  verdict-is x (inr w) = sym (ap refusalIn (rows-exact o os x .1 w))
 
 pub items-one-row : ItemsOneRow
 items-one-row o os =
-    record { answer = numberOf (itemsOf o); allowed = verdict o os (itemsOf o) refl; same = λ x y a b. verdict-is o os x a ∙ sym (verdict-is o os y b) }
+    record { answer = refusalIn (itemsOf o); allowed = verdict o os (itemsOf o) refl; same = λ x y a b. verdict-is o os x a ∙ sym (verdict-is o os y b) }
 
 -- ---- the count
-counted-of : (q : Out) (n : ℕ) → counted q ≡ Items n → (rs : List Rec) × (end : ℕ) × (q ≡ good rs end) × (length rs ≡ n)
-unfolding counted
-counted-of (good rs end) n e = (rs, end, refl, (let z : length rs ≡ n = cc in z))
-counted-of (bad x) n e = impossible (cc)
-
-things-counted : (o : List ℕ) → Octets o → (n : ℕ) → counted (itemsOf o) ≡ Items n → (ts : List Thing) × Grammar ts × (o ≡ encodeAll ts) × (length ts ≡ n)
-things-counted o os n e =
-    let z = counted-of (itemsOf o) n e in
+things-read : (o : List ℕ) → Octets o → (n : ℕ) → ReadAs o n → (ts : List Thing) × Grammar ts × (o ≡ encodeAll ts) × (length ts ≡ n)
+things-read o os n z =
     let w = written o os (z .0) (z .1) (z .2) in
     (w .things, w .grammar, w .octets, sym (records-count 0 0 (w .things)) ∙ sym (ap length (w .records)) ∙ z .3)
 
-counted-things : (ts : List Thing) → Grammar ts → counted (itemsOf (encodeAll ts)) ≡ Items (length ts)
-unfolding counted
-counted-things ts g = rw (reads ts g, records-count 0 0 ts)
-
 pub items-count : ItemsCount
-items-count o os n = (things-counted o os n, λ w. rw (w .2, ← w .3) (counted-things (w .0) (w .1)))
+items-count o os n = (things-read o os n, λ w. rw (w .2, ← w .3) (read-things (w .0) (w .1)))
 
 -- ---- left to right
 pub items-left-to-right : ItemsLeftToRight
-items-left-to-right o more x short whole closed e = of-refused (itemsOf (o ++ more)) x (items-front o more x whole closed short (refused-of (itemsOf o) x e))
+items-left-to-right o more x short whole closed e = items-front o more x whole closed short e
 
 -- ---- records
 pub items-records : ItemsRecords
 items-records = (reads, λ o os rs end e. let w = written o os rs end e in (w .things, w .grammar, w .octets, w .records, w .last))
+
+less : (d : ℕ) → d + 1 - 1 ≡ d
+less d = omega arith
+
+pub records-of : RecordsOf
+unfolding recordOf recordsFrom
+records-of =
+    record {
+      none = λ at d. refl;
+      next = λ at d t ts. refl;
+      tag = encode-length;
+      of-application = λ at d n xs. refl;
+      of-boolean = λ at d v. refl;
+      of-context = λ at d n xs. refl;
+      of-opening = λ at d n. refl;
+      of-closing = λ at d n. ap (λ (e : ℕ). rec 3 n e 0 (at + tagLength (closing n)) 0) (less d);
+      alone = λ d n v xs. (refl, refl, refl);
+      opens = λ d n. (refl, less d);
+    }
+
+pub records-laid : RecordsLaid
+unfolding recordsOctets recordOctets
+records-laid = (refl, λ k n d v p l rs. rw (digits-four p, digits-four l))
 
 pub listed-records : ListedRecords
 listed-records = (records-listed, listed-written)
 
 -- ---- by computation
 pub records-worked : RecordsWorked
-unfolding recordOctets recordsOctets digits encodeAll encode highBits numberOctets lowBits lengthOctets tagLength recordOf recordsFrom listing splice itemsOf walk step closes ending more headAt numberAt lengthAt twoAt fourAt firstRule firstContent contentsAt wholeAt signBad signedAt contextAt applicationAt least most
-records-worked = record { twelve = refl; layout = refl; records = refl; read = refl; listed = refl }
+unfolding recordOctets recordsOctets digits encodeAll encode highBits numberOctets lowBits lengthOctets tagLength recordOf recordsFrom listedOf listing splice itemsOf walk step closes ending more headAt numberAt lengthAt twoAt fourAt firstRule firstContent contentsAt wholeAt signBad signedAt contextAt applicationAt least most
+records-worked = record { twelve = refl; layout = refl; records = refl; read = refl; answers = (refl, refl, refl, refl); short = refl; listed = refl }
 
 pub items-worked : ItemsWorked
-unfolding counted times itemsOf walk step closes ending more headAt numberAt lengthAt twoAt fourAt firstRule firstContent contentsAt wholeAt signBad signedAt contextAt applicationAt least most
+unfolding recordsOctets recordOctets digits listedOf times itemsOf walk step closes ending more headAt numberAt lengthAt twoAt fourAt firstRule firstContent contentsAt wholeAt signBad signedAt contextAt applicationAt least most
 items-worked =
     record {
       closing = (refl, refl, refl, refl, refl, refl, refl, refl);
@@ -155,8 +152,14 @@ unfolding times
 times-octets zero x h = octets-none
 times-octets (suc n) x h = octets-more x (times n x) h (times-octets n x h)
 
-nulls-counted : (n : ℕ) → Grammar (nulls n) → counted (itemsOf (times n 0)) ≡ Items n
-nulls-counted n g = rw (← nulls-octets n) (counted-things (nulls n) g ∙ rw (nulls-length n))
+-- listing that is lent no octets
+none-lent : (o : List ℕ) → Listed o [] (listedOf 0 (itemsOf o)) (listing [] (itemsOf o))
+none-lent o = record { answer = refl; after = refl }
+
+nulls-needed : (n : ℕ) → 0 < n → Grammar (nulls n) → Needs (times n 0) n
+nulls-needed n some g =
+    let w : ReadAs (times n 0) n = rw (← nulls-octets n) (subst (ReadAs (encodeAll (nulls n))) (nulls-length n) (read-things (nulls n) g)) in
+    small-given (times n 0) [] _ _ (none-lent (times n 0)) n w (omega arith)
 
 nulls-grammar : Grammar (nulls 2048)
 nulls-grammar =
@@ -192,10 +195,13 @@ nulls-open =
     octets : 62 ∷ times 2047 0 ≡ encodeAll (opening 3 ∷ nulls 2047) ++ []
     octets = ap (λ (l : List ℕ). 62 ∷ l) (sym (nulls-octets 2047)) ∙ sym (opening-octets (nulls 2047)) ∙ sym (append-nil (encodeAll (opening 3 ∷ nulls 2047)))
 
+refused : (o : List ℕ) {x : ℕ} → itemsOf o ≡ bad x → Refuses o x
+refused o {x} e = refused-given o [] _ _ (none-lent o) x e
+
 pub items-most : ItemsMost
 items-most =
     record {
-      most = nulls-counted 2048 nulls-grammar;
-      over = λ r os some short. item-rows (times 2048 0 ++ r) (octets-join (times 2048 0) r (times-octets 2048 0 (omega arith)) os) 38 .1 (nulls-over r some short);
-      unclosed = item-rows (62 ∷ times 2047 0) (octets-more 62 (times 2047 0) (omega arith) (times-octets 2047 0 (omega arith))) 36 .1 nulls-open;
+      most = nulls-needed 2048 (omega arith) nulls-grammar;
+      over = λ r os some short. refused (times 2048 0 ++ r) (item-rows (times 2048 0 ++ r) (octets-join (times 2048 0) r (times-octets 2048 0 (omega arith)) os) 38 .1 (nulls-over r some short));
+      unclosed = refused (62 ∷ times 2047 0) (item-rows (62 ∷ times 2047 0) (octets-more 62 (times 2047 0) (omega arith) (times-octets 2047 0 (omega arith))) 36 .1 nulls-open);
     }

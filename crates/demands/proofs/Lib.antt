@@ -6,6 +6,7 @@ pub mod ServiceNumbers
 pub mod Segments
 pub mod Changes
 pub mod One
+pub mod Listing
 pub mod Two
 pub mod Three
 pub mod Worked
@@ -34,6 +35,7 @@ pub mod FrameContent
 pub mod FrameReports
 pub mod SegmentReports
 pub mod Reported
+pub mod ReportNumbers
 pub mod RecordOctets
 pub mod ServiceRows
 pub mod Replay

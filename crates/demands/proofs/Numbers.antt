@@ -14,9 +14,8 @@ use Rattle.tags.specs.Reading.{headAt}
 use Rattle.tags.specs.declared.Tag.{Tag}
 use Rattle.tags.specs.declared.Tag.the-variants.{Item, Opening, Closing}
 use Rattle.tags.proofs.Refusals.{TagHas}
-use Rattle.items.specs.Reading.{Out, walk, itemsOf, itemAt, oneAt, endOf, counted, mostItems}
+use Rattle.items.specs.Reading.{Out, walk, itemsOf, itemAt, oneAt, endOf, mostItems}
 use Rattle.items.specs.Reading.Out.{good, bad}
-use Rattle.items.specs.declared.Tally.{Tally}
 use Rattle.items.specs.declared.One.{One as OneItem}
 use Rattle.items.proofs.Refusals.{OutHas, head-has, walk-has, item-has}
 use Rattle.items.proofs.Longest.{one-over, one-within}
@@ -29,7 +28,7 @@ use Rattle.npdu.proofs.Outcome as Network
 use Rattle.apdu.proofs.Exact as Header
 use Rattle.apdu.proofs.FirstFault.{fault-range}
 use Rattle.demands.specs.Words.{Between}
-use Rattle.demands.specs.Demands.{NetworkNumbers, HeaderNumbers, CountNumbers, ItemNumbers, NetworkWriterNumbers, HeaderWriterNumbers}
+use Rattle.demands.specs.Demands.{NetworkNumbers, HeaderNumbers, ItemNumbers, NetworkWriterNumbers, HeaderWriterNumbers}
 
 -- a number of an item, 30 to 38
 abbrev Row : ℕ → Type 0
@@ -43,11 +42,6 @@ item-refused : (n : ℕ) (o : Out) → OutHas Row o → endOf o ≡ OneItem.Refu
 unfolding endOf
 item-refused n (good rs end) h e = impossible (cc)
 item-refused n (bad x) h e = let z : x ≡ n = cc in rw (← z) h
-
-count-refused : (n : ℕ) (o : Out) → OutHas Row o → counted o ≡ Tally.Refused n → Row n
-unfolding counted
-count-refused n (good rs end) h e = impossible (cc)
-count-refused n (bad x) h e = let z : x ≡ n = cc in rw (← z) h
 
 -- 39 first: over 16,384 octets the answer is 39, within them a refusal is one of the rows
 module _ {A : Type 0} (not : ℕ → A) (apart : (n : ℕ) → not n ≡ not 39 → n ≡ 39) (s : List ℕ) (a : A) (over : longest < length s → a ≡ not 39)
@@ -63,12 +57,19 @@ module _ {A : Type 0} (not : ℕ → A) (apart : (n : ℕ) → not n ≡ not 39 
       let h = ltb-false _ _ t in
       (λ n q. (let z = within h n q in (omega (arith, z .0), omega (arith, z .1))), (λ q. absurd (omega (arith, within h 39 q .1)), λ l. absurd (omega arith))))
 
-pub count-numbers : CountNumbers
-unfolding itemsOf counted
-count-numbers s =
-    thirty-nine Tally.Refused (λ n e. cc) s (counted (itemsOf s))
+-- ---- the reading of all items
+bad-walk : (n : ℕ) (o : Out) → OutHas Row o → o ≡ bad n → Row n
+bad-walk n o h e = subst (OutHas Row) e h
+
+pub tags-numbers : (s : List ℕ) → ((n : ℕ) → itemsOf s ≡ bad n → Between 30 39 n) × ((itemsOf s ≡ bad 39) ↔ (longest < length s))
+unfolding itemsOf
+tags-numbers s =
+    thirty-nine bad (λ n e. cc) s (itemsOf s)
     (λ h. rw (lt-ltb _ _ h))
-    (λ h n q. count-refused n (walk mostItems s 0 []) (walk-has Row rows mostItems s 0 []) (rw (le-ltb _ _ h) at q))
+    (λ h n q. bad-walk n (walk mostItems s 0 []) (walk-has Row rows mostItems s 0 []) (rw (le-ltb _ _ h) at q))
+
+pub bad-row : (s : List ℕ) (n : ℕ) → itemsOf s ≡ bad n → Between 30 39 n
+bad-row s = tags-numbers s .0
 
 -- ---- one item, and the reader value
 abbrev StepRow : Step → Type 0

@@ -1,24 +1,18 @@
--- Demand 1: the writers, listing, and what the collector's calls change.
-use Prim.Native.Nat.{ℕ, _+_, _*_, _%_, _≤_, _<_}
+-- Demand 1: the writers, and what the receiver's calls change.
+use Prim.Native.Nat.{ℕ, _+_, _%_, _<_}
 use native.Mathlib.Omega.{arith}
 use mathlib.Core.Path.{_≡_, refl, sym, ap, _∙_}
 use mathlib.Core.Logic.{_⊎_, inl, inr}
-use mathlib.Core.Bool.{true, false}
+use mathlib.Core.Bool.{true}
 use mathlib.Core.List.{List, [], _∷_}
 use mathlib.Core.Option.{some}
 use lib.Dec.{eqb, ltb}
-use lib.ListN.{length, drop}
-use borrow.Author.Tests.{eqb-true, eqb-false, ltb-true, ltb-false, lt-ltb, le-ltb}
+use lib.ListN.{length}
+use borrow.Author.Tests.{eqb-true, eqb-false, ltb-true, ltb-false}
 use Rattle.octets.specs.Choice.{by-test, pick-case, impossible}
 use Rattle.octets.specs.Laid.{laid-one, laid-fault, laid-short, laid-over, laid-as}
-use Rattle.octets.specs.Splice.{splice, splice-front, splice-length, splice-behind}
+use Rattle.octets.specs.Splice.{splice, splice-front}
 use Rattle.octets.specs.declared.Written.the-variants.{Wrote, Refused}
-use Rattle.items.specs.Records.{Rec, recordsOctets}
-use Rattle.items.specs.Reading.{Out, itemsOf, counted}
-use Rattle.items.specs.Reading.Out.{good, bad}
-use Rattle.items.specs.Listing.{listedOf, listing}
-use Rattle.items.specs.declared.Tally.{Tally}
-use Rattle.items.proofs.RecordOctets.{records-length}
 use Rattle.item_judge.specs.Judge.{recordsIn, goodRecords, writeFault}
 use Rattle.item_judge.proofs.Sixty as Judge
 use Rattle.frames.specs.Step.{soundOf, stepOf, reportsOf, feedFrom, feedOf, silenceOf}
@@ -28,7 +22,7 @@ use Rattle.frames.specs.declared.Receiver.{Receiver}
 use Rattle.frames.specs.declared.Fed.{Fed}
 use Rattle.frames.proofs.Calls.{feed-none, feed-refused, silence-refused, eaten-most, eaten-some}
 use Rattle.messages.proofs.Tests.{never}
-use Rattle.demands.specs.Demands.{WritersRefuse, SixtyTwo, SixtyOne, ListingRefuses, ReceiverKeeps, ReceiverEats}
+use Rattle.demands.specs.Demands.{WritersRefuse, SixtyTwo, SixtyOne, ReceiverKeeps, ReceiverEats}
 
 -- ---- writers
 pub writers-refuse : WritersRefuse
@@ -60,42 +54,6 @@ sixty-two records source os = (
   Judge.sixty-two records source os .0,
   Judge.sixty-two records source os .1,
 )
-
--- ---- listing
-module _ (area later : List ℕ) (r : Tally) where
-  abbrev ListedBy : Out → Type 0
-  ListedBy o =
-      ((n : ℕ) → counted o ≡ Tally.Refused n → (r ≡ Tally.Refused n) × (later ≡ area))
-      × ((k : ℕ) → counted o ≡ Tally.Items k
-      → (length area < 12 * k → (r ≡ Tally.Refused 61) × (later ≡ area))
-      × (12 * k ≤ length area → (r ≡ Tally.Items k) × (length later ≡ length area) × (drop (12 * k) later ≡ drop (12 * k) area)))
-
-  listed-good : (rs : List Rec) (end k : ℕ) → r ≡ listedOf (length area) (good rs end) → later ≡ listing area (good rs end) → k ≡ length rs
-      → (length area < 12 * k → (r ≡ Tally.Refused 61) × (later ≡ area))
-      × (12 * k ≤ length area → (r ≡ Tally.Items k) × (length later ≡ length area) × (drop (12 * k) later ≡ drop (12 * k) area))
-  unfolding listedOf listing
-  listed-good rs end k e d z =
-      let w = recordsOctets rs in
-      let l : length w ≡ 12 * k = records-length rs ∙ ap (λ (x : ℕ). 12 * x) (sym z) in (
-        λ h. (let g : length area < length w = omega arith in let t : ltb (length area) (length w) ≡ true = lt-ltb _ _ g in (e ∙ rw t, d ∙ rw t)),
-        λ h.
-            (let g : length w ≤ length area = omega arith in
-            let t : ltb (length area) (length w) ≡ false = le-ltb _ _ g in
-            let a : later ≡ splice area 0 w = d ∙ rw t in
-            (e ∙ rw t (ap Tally.Items (sym z)), ap length a ∙ splice-length area 0 w (omega arith), ap (drop (12 * k)) a ∙ splice-behind area 0 w (12 * k) (omega arith) (omega arith))),
-      )
-
-  listed-bad : (x n : ℕ) → r ≡ listedOf (length area) (bad x) → later ≡ listing area (bad x) → x ≡ n → (r ≡ Tally.Refused n) × (later ≡ area)
-  unfolding listedOf listing
-  listed-bad x n e d z = (e ∙ ap Tally.Refused z, d)
-
-  listed-by : (o : Out) → r ≡ listedOf (length area) o → later ≡ listing area o → ListedBy o
-  unfolding counted
-  listed-by (good rs end) e d = (λ n q. (impossible (cc)), λ k q. listed-good rs end k e d (let y : length rs ≡ k = cc in sym y))
-  listed-by (bad x) e d = (λ n q. listed-bad x n e d (let y : x ≡ n = cc in y), λ k q. (impossible (cc)))
-
-pub listing-refuses : ListingRefuses
-listing-refuses s area later r h = listed-by area later r (itemsOf s) (h .answer) (h .after)
 
 -- ---- the receiver
 pub receiver-keeps : ReceiverKeeps

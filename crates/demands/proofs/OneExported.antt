@@ -8,16 +8,16 @@ use lib.ListN.{length}
 use Rattle.octets.specs.Choice.{pick}
 use Rattle.octets.specs.Reading.{Octets}
 use Rattle.octets.specs.Laid.{answerOf, areaOf}
-use Rattle.items.specs.Reading.{itemsOf, counted, oneAt, endOf}
-use Rattle.items.specs.Listing.{listedOf, listing}
+use Rattle.items.specs.Reading.{itemsOf, oneAt, endOf}
+use Rattle.items.specs.Listing.{tallyNumber, tallyCount, listedOf, listing}
 use Rattle.collector.specs.Calls.{freshCollector}
 use Rattle.state.specs.Edition.{editionOf}
 use Rattle.state.specs.Layout.{stateSize, stateOctets}
 use Rattle.state.specs.Calls.{Saves}
 use Rattle.hitchbarley.specs.Trunk as Trunk
 use Rattle.hitchbarley.specs.Answers.{writtenNumber, writtenCount, Writes, Fills, FillsTo}
-use Rattle.hitchbarley.specs.Items.{tallyNumber, tallyCount, oneNumber, onePlace, Counts, Lists, Steps}
-use Rattle.hitchbarley.proofs.One.{writes-one, fills-one, fills-to-one, counts-one, lists-one, steps-one, saves-one, feeds-one, stills-one, forgets-one, writes-some, fills-some, fills-to-some, counts-some, lists-some, steps-some}
+use Rattle.hitchbarley.specs.Items.{oneNumber, onePlace, Lists, Steps}
+use Rattle.hitchbarley.proofs.One.{writes-one, fills-one, fills-to-one, lists-one, steps-one, saves-one, feeds-one, stills-one, forgets-one, writes-some, fills-some, fills-to-some, lists-some, steps-some}
 use Rattle.hitchbarley.proofs.Kept.{saves-some, feeds-some, stills-some, forgets-some}
 use Rattle.demands.specs.Words.{One}
 use Rattle.demands.specs.Exported.{OneExported}
@@ -91,11 +91,6 @@ wrote f o area =
     }
 
 -- ---- items
-numbered : (s : List ℕ) → One (ℕ × ℕ) (λ x. Counts s (x .0) (x .1))
-numbered s =
-    let t = counted (itemsOf s) in
-    record { answer = (tallyNumber t, tallyCount t); allowed = counts-some s; same = λ r r′ a b. let e = counts-one a b in λ i. (e .0 i, e .1 i) }
-
 listed : (s area : List ℕ) → One (ℕ × ℕ × List ℕ) (λ x. Lists s area (x .0) (x .1) (x .2))
 listed s area =
     let t = listedOf (length area) (itemsOf s) in
@@ -126,7 +121,6 @@ one-exported =
       hb-npdu-write = λ fields out. wrote _ _ out;
       hb-apdu-read = λ octets later fields. filled-to _ _ _ _ _ fields;
       hb-apdu-write = λ fields later out. wrote _ _ out;
-      hb-items-count = numbered;
       hb-items-list = listed;
       hb-item-next = stepped;
       hb-item-step = λ octets at item. filled-to _ _ _ _ _ item;

@@ -6,7 +6,7 @@ use mathlib.Core.Bool.{true, false}
 use mathlib.Core.List.{List}
 use mathlib.Core.Option.{none, some}
 use lib.Dec.{eqb}
-use lib.ListN.{drop}
+use lib.ListN.{length, drop}
 use borrow.Author.Tests.{eqb-true, eqb-false}
 use Rattle.octets.specs.Choice.{by-test, impossible, given-true}
 use Rattle.octets.specs.Reading.{oct}
@@ -20,9 +20,8 @@ use Rattle.apdu.specs.declared.Answer as Apdu
 use Rattle.apdu.specs.declared.Answer.the-variants.{Good, Refused}
 use Rattle.apdu.specs.declared.Pdu.{Pdu}
 use Rattle.apdu.specs.declared.Pdu.the-variants.{Request, Unconfirmed, SimpleAck, ComplexAck, SegmentAck, Error, Reject, Abort}
-use Rattle.items.specs.Reading.{itemsOf, counted}
-use Rattle.items.specs.declared.Tally.{Tally}
-use Rattle.items.specs.declared.Tally.the-variants.{Items}
+use Rattle.items.specs.Reading.{Out as ItemsRead, itemsOf}
+use Rattle.items.specs.Listing.{ReadAs}
 use Rattle.trunk.specs.Reading.Out.{good}
 use Rattle.messages.specs.Slots.{Segment, part, room}
 use Rattle.messages.specs.Rows.{Answer}
@@ -35,7 +34,7 @@ use Rattle.collector.specs.Heard.{routeOf, heardOf, partsOf}
 use Rattle.collector.specs.Frame.{Content, contentOf, segmentIn, byTags, segmentAt, answeredAt}
 use Rattle.collector.specs.Frame.Content.{message}
 use Rattle.collector.specs.declared.heard.Parts.{Parts}
-use Rattle.collector.proofs.Content.{tags-put, tags-turn}
+use Rattle.collector.proofs.Content.{tags-good, tags-bad}
 use Rattle.demands.specs.Words.{addressIn}
 use Rattle.demands.specs.Reported.{FiveOrSix, Behind, Carries, CarriesSegment, SegmentIs, SegmentReport, SegmentReported, kind4, kind5, kind6, invokeIn, choiceIn, segIn}
 use Rattle.demands.specs.Reported.CarriesSegment.{request, complex-ack}
@@ -140,26 +139,27 @@ module _ (edition : Edition) (h d a : List ℕ) (g : Segment Key) where
     complete-said i n = rw (k .content, k .names)
 
     module _ (i n : ℕ) where
-      whole-said : {x : ℕ} → counted (itemsOf (part (room * i) n area)) ≡ Items x
+      whole-said : {x : ℕ} → ReadAs (part (room * i) n area) x
           → answeredAt edition (good h d) (completed i n) area ≡ kind5 h (oct a 0) (g .key .invoke) (g .choice) i n
-      whole-said e =
-          complete-said i n ∙ sym (tags-put (itemsOf (part (room * i) n area)) (complete (heardOf edition h .frame) (named a g) i n) refl e refl)
+      whole-said w =
+          complete-said i n ∙ ap reportOctets (tags-good (complete (heardOf edition h .frame) (named a g) i n) (w .2))
           ∙ report-laid (complete (heardOf edition h .frame) (named a g) i n)
 
-      bad-said : {x : ℕ} → counted (itemsOf (part (room * i) n area)) ≡ Tally.Refused x → answeredAt edition (good h d) (completed i n) area ≡ kind6 h x
+      bad-said : {x : ℕ} → itemsOf (part (room * i) n area) ≡ ItemsRead.bad x → answeredAt edition (good h d) (completed i n) area ≡ kind6 h x
       bad-said {x} e =
-          complete-said i n ∙ sym (tags-turn (itemsOf (part (room * i) n area)) (complete (heardOf edition h .frame) (named a g) i n) refl e refl refl)
+          complete-said i n ∙ ap reportOctets (tags-bad (complete (heardOf edition h .frame) (named a g) i n) e)
           ∙ report-laid (refusal (heardOf edition h .frame) x)
 
-      by-its-tags : {o : List ℕ} (y : Tally) → counted (itemsOf (part (room * i) n area)) ≡ y → answeredAt edition (good h d) (completed i n) area ≡ o
+      by-its-tags : {o : List ℕ} (y : ItemsRead) → itemsOf (part (room * i) n area) ≡ y → answeredAt edition (good h d) (completed i n) area ≡ o
           → SegmentReport h a g (completed i n) area o
-      by-its-tags (Items x) e q = SegmentReport.complete i n x refl e (sym q ∙ whole-said e)
-      by-its-tags (Tally.Refused x) e q = SegmentReport.bad-tags i n x refl e (sym q ∙ bad-said e)
+      by-its-tags (ItemsRead.good rs end) e q =
+          let w : ReadAs (part (room * i) n area) (length rs) = (rs, end, e, refl) in SegmentReport.complete i n (length rs) refl w (sym q ∙ whole-said w)
+      by-its-tags (ItemsRead.bad x) e q = SegmentReport.bad-tags i n x refl e (sym q ∙ bad-said e)
 
     answer-reported : {o : List ℕ} (w : Answer) → answeredAt edition (good h d) w area ≡ o → SegmentReport h a g w area o
     answer-reported (refused x) q = SegmentReport.not-taken x refl (sym q ∙ refused-said x)
     answer-reported (taken i n) q = SegmentReport.held i n refl (sym q ∙ held-said i n)
-    answer-reported (completed i n) q = by-its-tags i n (counted (itemsOf (part (room * i) n area))) refl q
+    answer-reported (completed i n) q = by-its-tags i n (itemsOf (part (room * i) n area)) refl q
 
     at-answer : {w v : Answer} {o : List ℕ} → w ≡ v → answeredAt edition (good h d) v area ≡ o → answeredAt edition (good h d) w area ≡ o
     at-answer e q = rw e q

@@ -26,6 +26,11 @@ use Rattle.rebuild.proofs.Giving.{gives-by, taking-60, taking-on}
 use Rattle.demands.specs.Words.{Between, inFront, waits, SegmentLaid, SegmentChanges}
 use Rattle.demands.specs.Demands.{SegmentDoes, TakeDoes, FreeDoes}
 
+-- the numbers of a refused segment
+pub refusal-row : {n : ℕ} {A B : Type 0} → (Between 50 53 n × A) ⊎ ((n ≡ 54) × B) → Between 50 54 n
+refusal-row (inl x) = (x .0 .0, omega (arith, x .0 .1))
+refusal-row (inr x) = (omega (arith, x .0), omega (arith, x .0))
+
 -- the record that is awaited, in the page's words
 pub waits-is : (g : Segment Key) (n : ℕ) → awaiting keys g n ≡ waits g n
 waits-is g n = rw (next-is (g .number))

@@ -5,11 +5,11 @@ use mathlib.Core.Path.{_≡_, refl, sym, ap, subst, _∙_}
 use mathlib.Core.Logic.{_⊎_, inl, inr}
 use mathlib.Core.List.{List, []}
 use mathlib.Core.Bool.{false}
-use Rattle.octets.specs.Choice.{pick-case, impossible}
+use lib.ListN.{length}
+use Rattle.octets.specs.Choice.{pick-case}
 use Rattle.items.specs.Records.{Rec}
-use Rattle.items.specs.Reading.{Out, itemsOf, counted}
+use Rattle.items.specs.Reading.{Out, itemsOf}
 use Rattle.items.specs.Reading.Out.{good, bad}
-use Rattle.items.specs.declared.Tally.{Tally}
 use Rattle.services.specs.Reading.{layoutFor, afterTags, readService}
 use Rattle.services.specs.Layout.{Message}
 use Rattle.services.specs.Layout.Message.{readProperty, readPropertyAck, writeProperty, whoIs, iAm, errorOf}
@@ -23,18 +23,14 @@ use Rattle.service_writer.specs.Layout.{kindOf, choiceOf, octetsOf}
 use Rattle.service_writer.specs.Fault.{tooWide, refusalOf, faultOf}
 use Rattle.demands.specs.Words.{Between}
 use Rattle.demands.specs.Demands.{ServiceNumbers, ServiceWriterNumbers}
-use Rattle.demands.proofs.Numbers.{count-numbers}
+use Rattle.demands.proofs.Numbers.{bad-row}
 
 -- ---- tags first
-tags-first : (f : List Rec → Answer) (o : Out) (n : ℕ) → counted o ≡ Tally.Refused n → afterTags f o ≡ Refused n
-unfolding counted
-tags-first f (good rs end) n e = impossible (cc)
-tags-first f (bad x) n e = let z : x ≡ n = cc in ap Refused z
+tags-first : (f : List Rec → Answer) {o : Out} {n : ℕ} → o ≡ bad n → afterTags f o ≡ Refused n
+tags-first f e = rw e
 
-tags-good : (f : List Rec → Answer) (o : Out) (k : ℕ) → counted o ≡ Tally.Items k → (rs : List Rec) × (afterTags f o ≡ f rs)
-unfolding counted
-tags-good f (good rs end) k e = (rs, refl)
-tags-good f (bad x) k e = impossible (cc)
+tags-good : (f : List Rec → Answer) {o : Out} {rs : List Rec} {end : ℕ} → o ≡ good rs end → afterTags f o ≡ f rs
+tags-good f e = rw e
 
 abbrev Numbered : ℕ → ℕ → Answer → Type 0
 Numbered kind choice a = ((n : ℕ) → a ≡ Refused n → Between 40 43 n) × ((a ≡ Refused 43 → (m : Message) → For kind choice m → ⊥) × (((m : Message) → For kind choice m → ⊥) → a ≡ Refused 43))
@@ -48,8 +44,8 @@ numbered kind choice a (inr x) =
 pub service-numbers : ServiceNumbers
 unfolding readService
 service-numbers kind choice s = (
-  λ n e. tags-first (layoutFor kind choice s) (itemsOf s) n e,
-  λ k e. (let g = tags-good (layoutFor kind choice s) (itemsOf s) k e in subst (Numbered kind choice) (sym (g .1)) (numbered kind choice _ (layout-numbers kind choice s (g .0)))),
+  λ n e. tags-first (layoutFor kind choice s) e,
+  λ k w. subst (Numbered kind choice) (sym (tags-good (layoutFor kind choice s) (w .2))) (numbered kind choice _ (layout-numbers kind choice s (w .0))),
 )
 
 -- ---- the writer: its own kind and choice have a layout, so 43 is none of its numbers
@@ -65,16 +61,16 @@ abbrev Thirty : ℕ → Type 0
 Thirty n = (n ≡ 0) ⊎ Between 30 42 n
 
 module _ (kind choice : ℕ) (o : List ℕ) (m : (m : Message) × For kind choice m) where
-  read-numbers : (t : Tally) → counted (itemsOf o) ≡ t → (a : Answer) → readService kind choice o ≡ a → Thirty (refusalOf a)
+  read-numbers : (t : Out) → itemsOf o ≡ t → (a : Answer) → readService kind choice o ≡ a → Thirty (refusalOf a)
   unfolding refusalOf
   read-numbers t e (Good v) q = inl refl
-  read-numbers (Tally.Refused n) e (Refused x) q =
+  read-numbers (bad n) e (Refused x) q =
       let w : Refused x ≡ Refused n = sym q ∙ service-numbers kind choice o .0 n e in
       let z : x ≡ n = cc in
-      let l = count-numbers o .0 n e in
+      let l = bad-row o n e in
       inr (omega (arith, l .0), omega (arith, l .1))
-  read-numbers (Tally.Items k) e (Refused x) q =
-      let h = service-numbers kind choice o .1 k e in
+  read-numbers (good rs end) e (Refused x) q =
+      let h = service-numbers kind choice o .1 (length rs) (rs, end, e, refl) in
       let l = h .0 x q in
       let ne : x ≡ 43 → ⊥ = λ z. h .1 .0 (q ∙ ap Refused z) (m .0) (m .1) in
       inr (omega (arith, l .0), omega (arith, l .1, ne))
@@ -83,4 +79,4 @@ pub service-writer-numbers : ServiceWriterNumbers
 unfolding faultOf
 service-writer-numbers v value =
     let o = octetsOf v value in
-    pick-case Thirty (tooWide v) (inr (omega arith, omega arith)) (read-numbers (kindOf v) (choiceOf v) o (own v) (counted (itemsOf o)) refl (readService (kindOf v) (choiceOf v) o) refl)
+    pick-case Thirty (tooWide v) (inr (omega arith, omega arith)) (read-numbers (kindOf v) (choiceOf v) o (own v) (itemsOf o) refl (readService (kindOf v) (choiceOf v) o) refl)

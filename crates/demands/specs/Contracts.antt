@@ -25,7 +25,7 @@ use Rattle.apdu.specs.declared.Edition.{Edition}
 use Rattle.apdu.specs.declared.Pdu.{Pdu}
 use Rattle.apdu.specs.declared.Answer as Apdu
 use Rattle.items.specs.Grammar as Items
-use Rattle.items.specs.Reading.{itemsOf, counted, itemAt, oneAt, endOf}
+use Rattle.items.specs.Reading.{itemAt, oneAt, endOf}
 use Rattle.items.specs.Records.{thingsOf}
 use Rattle.items.specs.Listing.{Listed}
 use Rattle.items.specs.declared.Tally.{Tally}
@@ -60,7 +60,7 @@ use Rattle.hitchbarley.specs.Trunk as Trunk
 use Rattle.hitchbarley.specs.Replay.{Replays}
 use Rattle.hitchbarley.specs.Answers.{Writes, Fills, FillsTo}
 use Rattle.hitchbarley.specs.Headers.{apduGood, apduNumber, apduOctets, apduParams, npduFault, apduFault}
-use Rattle.hitchbarley.specs.Items.{Counts, Lists, Steps, stepGood, stepNumber, stepRecord, stepPlace}
+use Rattle.hitchbarley.specs.Items.{Lists, Steps, stepGood, stepNumber, stepRecord, stepPlace}
 use Rattle.hitchbarley.specs.Services.{serviceGood, serviceNumber, serviceOctets, serviceFault}
 use Rattle.sums.proofs.header_step.Reads as header-step-call
 use Rattle.sums.proofs.header_run.Reads as header-run-call
@@ -75,7 +75,6 @@ use Rattle.npdu.proofs.read.Reads as npdu-read-call
 use Rattle.npdu.proofs.write.Reads as npdu-write-call
 use Rattle.apdu.proofs.read.Reads as apdu-read-call
 use Rattle.apdu_writer.proofs.write.Reads as apdu-write-call
-use Rattle.items.proofs.count.Reads as items-count-call
 use Rattle.items.proofs.list.Reads as items-list-call
 use Rattle.items.proofs.item_at.Reads as items-item-at-call
 use Rattle.items.proofs.whole_at.Reads as items-whole-at-call
@@ -105,7 +104,6 @@ use Rattle.hitchbarley.proofs.header_calls.hb_npdu_read.Reads as hb-npdu-read-c
 use Rattle.hitchbarley.proofs.header_calls.hb_npdu_write.Reads as hb-npdu-write-call
 use Rattle.hitchbarley.proofs.header_calls.hb_apdu_read.Reads as hb-apdu-read-call
 use Rattle.hitchbarley.proofs.header_calls.hb_apdu_write.Reads as hb-apdu-write-call
-use Rattle.hitchbarley.proofs.item_calls.hb_items_count.Reads as hb-items-count-call
 use Rattle.hitchbarley.proofs.item_calls.hb_items_list.Reads as hb-items-list-call
 use Rattle.hitchbarley.proofs.item_calls.hb_item_next.Reads as hb-item-next-call
 use Rattle.hitchbarley.proofs.item_calls.hb_item_step.Reads as hb-item-step-call
@@ -160,9 +158,6 @@ pub record Contracts : Type 0 where
   pub apdu-write : (κ1 : Lft) (e : Edition) (p : Pdu) (out out′ : RefT (List ℕ)) (r : Written)
       → Contract (apdu-write-call.Pre (κ1, tt) (e, (p, (out, tt)))) (apdu-write-call.Post (κ1, tt) (e, (p, (out, tt))) r (e, (p, (out′, tt))))
       (Laid (HeaderFault.faultOf e p) (Header.header p) (now out) r (now out′))
-  pub items-count : (κ1 : Lft) (s : RefT (List ℕ)) (r : Tally)
-      → Contract (items-count-call.Pre (κ1, tt) (s, tt)) (items-count-call.Post (κ1, tt) (s, tt) r (s, tt))
-      (r ≡ counted (itemsOf (now s)))
   pub items-list : (κ1 κ2 : Lft) (s out out′ : RefT (List ℕ)) (r : Tally)
       → Contract (items-list-call.Pre (κ1, (κ2, tt)) (s, (out, tt))) (items-list-call.Post (κ1, (κ2, tt)) (s, (out, tt)) r (s, (out′, tt)))
       (Listed (now s) (now out) r (now out′))
@@ -254,9 +249,6 @@ pub record ExportedContracts : Type 0 where
   pub hb-apdu-write : (κ1 κ2 κ3 : Lft) (fields : RefT (List ℕ)) (later : ℕ) (out out′ : RefT (List ℕ)) (wrote wrote′ : RefT ℕ) (r : ℕ)
       → Contract (hb-apdu-write-call.Pre (κ1, (κ2, (κ3, tt))) (fields, (later, (out, (wrote, tt))))) (hb-apdu-write-call.Post (κ1, (κ2, (κ3, tt))) (fields, (later, (out, (wrote, tt)))) r (fields, (later, (out′, (wrote′, tt)))))
       (Writes (apduFault (editionOf later) (now fields)) (Header.header (apduAt (now fields))) (now out) r (now wrote′) (now out′))
-  pub hb-items-count : (κ1 κ2 : Lft) (octets : RefT (List ℕ)) (count count′ : RefT ℕ) (r : ℕ)
-      → Contract (hb-items-count-call.Pre (κ1, (κ2, tt)) (octets, (count, tt))) (hb-items-count-call.Post (κ1, (κ2, tt)) (octets, (count, tt)) r (octets, (count′, tt)))
-      (Counts (now octets) r (now count′))
   pub hb-items-list : (κ1 κ2 κ3 : Lft) (octets listed listed′ : RefT (List ℕ)) (count count′ : RefT ℕ) (r : ℕ)
       → Contract (hb-items-list-call.Pre (κ1, (κ2, (κ3, tt))) (octets, (listed, (count, tt)))) (hb-items-list-call.Post (κ1, (κ2, (κ3, tt))) (octets, (listed, (count, tt))) r (octets, (listed′, (count′, tt))))
       (Lists (now octets) (now listed) r (now count′) (now listed′))

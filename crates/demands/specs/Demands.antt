@@ -45,9 +45,9 @@ use Rattle.tags.specs.Types.{longest}
 use Rattle.tags.specs.Reading.{headAt}
 use Rattle.tags.specs.Layout as Tags
 use Rattle.items.specs.Grammar as Items
-use Rattle.items.specs.Reading.{itemsOf, counted, itemAt, oneAt, endOf}
-use Rattle.items.specs.Records.{thingsOf}
-use Rattle.items.specs.Listing.{Listed}
+use Rattle.items.specs.Reading.{Out as ItemsRead, itemsOf, itemAt, oneAt, endOf}
+use Rattle.items.specs.Records.{Rec, thingsOf, recordsOctets}
+use Rattle.items.specs.Listing.{tallyNumber, tallyCount, ReadAs, Listed}
 use Rattle.items.specs.declared.Tally.{Tally}
 use Rattle.items.specs.declared.One.{One as OneItem}
 use Rattle.item_judge.specs.Judge.{writeFault, recordsIn}
@@ -90,7 +90,7 @@ use Rattle.state.specs.Layout.{stateOctets, Fits}
 use Rattle.state.specs.Calls.{Loads}
 use Rattle.hitchbarley.specs.Trunk.{stateBy}
 use Rattle.hitchbarley.specs.Offering.{Heard, Linked}
-use Rattle.demands.specs.Words.{One, Between, SixtyThenFiftyNine, BrokenReceiver, Broken, Four, WritesBy, SegmentChanges, unfedBy, quietBy, FeedChanges, shownService, KeptService, AcceptedBack, WholeBack}
+use Rattle.demands.specs.Words.{One, Between, SixtyThenFiftyNine, BrokenReceiver, Broken, Four, WritesBy, ListNumbered, SegmentChanges, unfedBy, quietBy, FeedChanges, shownService, KeptService, AcceptedBack, WholeBack}
 
 -- ---- DEMAND 1. "Every call, on any octets, records, slot numbers or areas, stays in bounds and ends. Bad input gets the refusal number that document 01
 -- fixes, and the call changes only what that page then lets it."
@@ -113,7 +113,6 @@ pub record OneAnswer : Type 0 where
   pub npdu-write : (h : Npdu) (out : List ℕ) → One (Written × List ℕ) (λ x. Laid (NetworkFault.faultOf h) (Network.encode h) out (x .0) (x .1))
   pub apdu-read : (e : Edition) (s : List ℕ) → One Apdu.Answer (λ r. r ≡ readApdu e s)
   pub apdu-write : (e : Edition) (p : Pdu) (out : List ℕ) → One (Written × List ℕ) (λ x. Laid (HeaderFault.faultOf e p) (Header.header p) out (x .0) (x .1))
-  pub items-count : (s : List ℕ) → One Tally (λ r. r ≡ counted (itemsOf s))
   pub items-list : (s out : List ℕ) → One (Tally × List ℕ) (λ x. Listed s out (x .0) (x .1))
   pub items-item-at : (s : List ℕ) (at : ℕ) → One OneItem (λ r. r ≡ endOf (oneAt s at))
   pub items-whole-at : (s : List ℕ) (at : ℕ) → One OneItem (λ r. r ≡ endOf (itemAt s at))
@@ -144,9 +143,18 @@ NetworkNumbers = (s : List ℕ) → (readNpdu s .refused ≡ 0) ⊎ (Between 10 
 abbrev pub HeaderNumbers : Type 0
 HeaderNumbers = (e : Edition) (s : List ℕ) (n : ℕ) → readApdu e s ≡ Apdu.Answer.Refused n → Between 20 24 n
 
--- counting: 30 to 39, and 39 exactly for "over 16,384 parameter octets (judged first)"
-abbrev pub CountNumbers : Type 0
-CountNumbers = (s : List ℕ) → ((n : ℕ) → counted (itemsOf s) ≡ Tally.Refused n → Between 30 39 n) × ((counted (itemsOf s) ≡ Tally.Refused 39) ↔ (longest < length s))
+-- listing: 30 to 39 with the count 0, 39 first of all; 61 exactly where the tags are good and the records do not fit, with their number (Words: ListNumbered)
+abbrev pub ListNumbers : Type 0
+ListNumbers = (s area later : List ℕ) (r : Tally) → Listed s area r later → ListNumbered s area (tallyNumber r) (tallyCount r)
+
+-- "offers an area for zero records and takes 61 as good; for no items that answer is plain success": in an area of fewer than 12 octets success is given
+-- exactly for no items, which is no octets, 61 exactly for one item or more with good tags, and a tag's number exactly where the reading refuses. So who offers
+-- no room for a record has the octets judged, and loses no refusal
+abbrev pub CheckedByNoRecords : Type 0
+CheckedByNoRecords = (s area later : List ℕ) (r : Tally) → length area < 12 → Listed s area r later
+    → ((tallyNumber r ≡ 0) ↔ ReadAs s 0) × (ReadAs s 0 ↔ (s ≡ []))
+    × ((k : ℕ) → ((tallyNumber r ≡ 61) × (tallyCount r ≡ k)) ↔ (ReadAs s k × (0 < k)))
+    × ((x : ℕ) → ((tallyNumber r ≡ x) × Between 30 39 x) ↔ (itemsOf s ≡ ItemsRead.bad x)) × (later ≡ area)
 
 -- one item with its whole group, read by itself or by the reader value: the same
 abbrev pub ItemNumbers : Type 0
@@ -157,8 +165,8 @@ ItemNumbers = (s : List ℕ) (at : ℕ)
 -- services: "Tag refusals 30 to 39 come before 43 and 40 to 42"; 43 exactly for a "choice not above for that PDU"
 abbrev pub ServiceNumbers : Type 0
 ServiceNumbers = (kind choice : ℕ) (s : List ℕ)
-    → ((n : ℕ) → counted (itemsOf s) ≡ Tally.Refused n → readService kind choice s ≡ ServiceAnswer.Answer.Refused n)
-    × ((k : ℕ) → counted (itemsOf s) ≡ Tally.Items k
+    → ((n : ℕ) → itemsOf s ≡ ItemsRead.bad n → readService kind choice s ≡ ServiceAnswer.Answer.Refused n)
+    × ((k : ℕ) → ReadAs s k
     → ((n : ℕ) → readService kind choice s ≡ ServiceAnswer.Answer.Refused n → Between 40 43 n)
     × ((readService kind choice s ≡ ServiceAnswer.Answer.Refused 43) ↔ ((m : ServiceLayout.Message) → Services.For kind choice m → ⊥)))
 
@@ -188,13 +196,14 @@ SixtyTwo = (records source : List ℕ) → Octets source
 abbrev pub SixtyOne : Type 0
 SixtyOne = (f : ℕ) (o area later : List ℕ) (r : Written) → (f ≡ 61 → ⊥) → Laid f o area r later → (r ≡ Refused 61) ↔ ((f ≡ 0) × (length area < length o))
 
--- listing: counting's number, or 61 exactly where its 12 octets an item do not fit; refused, it leaves the area, else it changes 12 octets an item
+-- listing: a tag's number, and the area as it was; 61 with the count needed where 12 octets an item do not fit, and the area as it was; else the count, the items'
+-- records in front, and the rest of the area as it was
 abbrev pub ListingRefuses : Type 0
 ListingRefuses = (s area later : List ℕ) (r : Tally) → Listed s area r later
-    → ((n : ℕ) → counted (itemsOf s) ≡ Tally.Refused n → (r ≡ Tally.Refused n) × (later ≡ area))
-    × ((k : ℕ) → counted (itemsOf s) ≡ Tally.Items k
-    → (length area < 12 * k → (r ≡ Tally.Refused 61) × (later ≡ area))
-    × (12 * k ≤ length area → (r ≡ Tally.Items k) × (length later ≡ length area) × (drop (12 * k) later ≡ drop (12 * k) area)))
+    → ((n : ℕ) → itemsOf s ≡ ItemsRead.bad n → (r ≡ Tally.Refused n) × (later ≡ area))
+    × ((rs : List Rec) (end : ℕ) → itemsOf s ≡ ItemsRead.good rs end
+    → (length area < 12 * length rs → (r ≡ Tally.Small (length rs)) × (later ≡ area))
+    × (12 * length rs ≤ length area → (r ≡ Tally.Items (length rs)) × (later ≡ recordsOctets rs ++ drop (12 * length rs) area) × (length later ≡ length area)))
 
 -- a report: "One record of 16 octets"
 abbrev pub ReportSize : Type 0

@@ -21,7 +21,7 @@ use Rattle.apdu.specs.declared.Edition.{Edition}
 use Rattle.apdu.specs.declared.Answer.the-variants as ApduAnswer
 use Rattle.apdu.specs.declared.Pdu.{Pdu}
 use Rattle.items.specs.Grammar as Items
-use Rattle.items.specs.Reading.{itemsOf, counted, oneAt, endOf}
+use Rattle.items.specs.Reading.{oneAt, endOf}
 use Rattle.items.specs.Records.{rec, recordOctets, thingsOf}
 use Rattle.items.specs.Listing.{Listed}
 use Rattle.items.specs.declared.Tally.{Tally}
@@ -53,9 +53,9 @@ use Rattle.hitchbarley.specs.Trunk as Trunk
 use Rattle.hitchbarley.specs.Replay.{Replays}
 use Rattle.hitchbarley.specs.Answers.{Writes, Fills, FillsTo}
 use Rattle.hitchbarley.specs.Headers.{apduGood, apduNumber, apduOctets, apduParams, npduFault, apduFault}
-use Rattle.hitchbarley.specs.Items.{Counts, Lists, Steps, stepGood, stepNumber, stepRecord, stepPlace}
+use Rattle.hitchbarley.specs.Items.{Lists, Steps, stepGood, stepNumber, stepRecord, stepPlace}
 use Rattle.hitchbarley.specs.Services.{serviceGood, serviceNumber, serviceOctets, serviceFault}
-use Rattle.demands.specs.Words.{One, SixtyThenFiftyNine, Broken, AcceptedBack, WholeBack}
+use Rattle.demands.specs.Words.{One, SixtyThenFiftyNine, Broken, ListNumbered, AcceptedBack, WholeBack}
 
 -- ---- the calls of one trunk, over a state area
 -- the area's octets are a state's, of which P holds
@@ -161,17 +161,14 @@ ExportedServiceRead = (kind choice : ℕ) (s fields : List ℕ) (r : ℕ) (field
     → ReadsInto 26 fields r (fields′ ≡ fields)
     (((x : ℕ) → a ≡ ServiceAnswer.Refused x → r ≡ x) × ((v : Service) → a ≡ ServiceAnswer.Good v → (r ≡ 0) × (fields′ ≡ serviceRecord v))))
 
--- ---- counting, listing and stepping over an item: the answer of the call below as its number and what it gives back, 0 with a refusal
-abbrev pub ExportedCount : Type 0
-ExportedCount = (s : List ℕ) (r count : ℕ) → Counts s r count
-    → ((n : ℕ) → counted (itemsOf s) ≡ Tally.Items n → (r ≡ 0) × (count ≡ n))
-    × ((x : ℕ) → counted (itemsOf s) ≡ Tally.Refused x → (r ≡ x) × (count ≡ 0))
-
--- the listing is the one of which ListingRefuses and ListedRecords speak
+-- ---- listing and stepping over an item: the answer of the call below as its number and what it gives back, 0 with a refusal; only 61 of the listing comes
+-- with the count needed. Its listing is the one of which ListingRefuses, CheckedByNoRecords and ListedRecords speak
 abbrev pub ExportedList : Type 0
 ExportedList = (s area : List ℕ) (r count : ℕ) (later : List ℕ) → Lists s area r count later
-    → (t : Tally) × Listed s area t later
+    → ListNumbered s area r count
+    × (t : Tally) × Listed s area t later
     × ((n : ℕ) → t ≡ Tally.Items n → (r ≡ 0) × (count ≡ n))
+    × ((n : ℕ) → t ≡ Tally.Small n → (r ≡ 61) × (count ≡ n))
     × ((x : ℕ) → t ≡ Tally.Refused x → (r ≡ x) × (count ≡ 0))
 
 abbrev pub ExportedNext : Type 0
@@ -242,7 +239,6 @@ pub record OneExported : Type 0 where
       → (let a = readApdu (editionOf later) octets in
       One (ℕ × ℕ × List ℕ) (λ x. FillsTo apduSize (apduGood a) (apduNumber a) (apduOctets a) (apduParams a) fields (x .0) (x .1) (x .2)))
   pub hb-apdu-write : (fields : List ℕ) (later : ℕ) (out : List ℕ) → One (ℕ × ℕ × List ℕ) (λ x. Writes (apduFault (editionOf later) fields) (Header.header (apduAt fields)) out (x .0) (x .1) (x .2))
-  pub hb-items-count : (octets : List ℕ) → One (ℕ × ℕ) (λ x. Counts octets (x .0) (x .1))
   pub hb-items-list : (octets listed : List ℕ) → One (ℕ × ℕ × List ℕ) (λ x. Lists octets listed (x .0) (x .1) (x .2))
   pub hb-item-next : (octets : List ℕ) (at : ℕ) → One (ℕ × ℕ) (λ x. Steps octets at (x .0) (x .1))
   pub hb-item-step : (octets : List ℕ) (at : ℕ) (item : List ℕ)

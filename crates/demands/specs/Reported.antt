@@ -20,8 +20,8 @@ use Rattle.apdu.specs.declared.RequestPdu.{RequestPdu}
 use Rattle.apdu.specs.declared.ComplexAckPdu.{ComplexAckPdu}
 use Rattle.apdu.specs.declared.Pdu.{Pdu}
 use Rattle.apdu.specs.declared.Pdu.the-variants.{Request, Unconfirmed, SimpleAck, ComplexAck, SegmentAck, Error, Reject, Abort}
-use Rattle.items.specs.Reading.{itemsOf, counted}
-use Rattle.items.specs.declared.Tally.{Tally}
+use Rattle.items.specs.Reading.{Out as ItemsRead, itemsOf}
+use Rattle.items.specs.Listing.{ReadAs}
 use Rattle.frames.specs.Step.{feedOf, silenceOf}
 use Rattle.frames.specs.declared.Outcome.the-variants.{Damage}
 use Rattle.trunk.specs.Reading.Out.{good, damage}
@@ -39,7 +39,7 @@ use Rattle.collector.specs.Calls.{slotsOf, Feeds, Stills}
 use Rattle.collector.specs.declared.Collector.{Collector}
 use Rattle.collector.specs.declared.Fed.{Fed}
 use Rattle.collector.specs.declared.Fell.{Fell}
-use Rattle.demands.specs.Words.{addressIn}
+use Rattle.demands.specs.Words.{Between, addressIn}
 
 -- ---- the 16 octets. "0: kind; 1: refusal number or 0; 2 to 4: frame type, destination, source; 5: first APDU octet; 6: invoke ID; 7: slot; 8 to 11: length,
 -- high octet first; 12: service choice. All else .. is 0." The octets 2 to 4 are the first three of a frame's head h
@@ -143,9 +143,9 @@ pub data PlainReport (e : Edition) (h d o : List ℕ) : Type 0 where
   network : (rest : List ℕ) → Behind h d true rest → o ≡ kind7 h (length rest) → PlainReport e h d o
   -- 6 with the APDU header's number, 20 to 24; with the tag number of its parameters, 30 to 39
   apdu-refused : (a : List ℕ) (x : ℕ) → Behind h d false a → readApdu e a ≡ Refused x → o ≡ kind6 h x → PlainReport e h d o
-  tags-refused : (a : List ℕ) (p : Pdu) (t : List ℕ) (x : ℕ) → Carries e h d a p t → segIn p ≡ false → counted (itemsOf t) ≡ Tally.Refused x → o ≡ kind6 h x → PlainReport e h d o
+  tags-refused : (a : List ℕ) (p : Pdu) (t : List ℕ) (x : ℕ) → Carries e h d a p t → segIn p ≡ false → itemsOf t ≡ ItemsRead.bad x → o ≡ kind6 h x → PlainReport e h d o
   -- 3: the whole APDU's length; PDUs without parameters have no tags to judge
-  apdu : (a : List ℕ) (p : Pdu) (t : List ℕ) (n : ℕ) → Carries e h d a p t → segIn p ≡ false → counted (itemsOf t) ≡ Tally.Items n
+  apdu : (a : List ℕ) (p : Pdu) (t : List ℕ) (n : ℕ) → Carries e h d a p t → segIn p ≡ false → ReadAs t n
       → o ≡ kind3 h (oct a 0) (invokeIn p) (choiceIn p) (length a) → PlainReport e h d o
 
 -- exactly that is reported: it carries no segment and o is its report, just when the page's words give o
@@ -187,14 +187,22 @@ pub data SegmentReport (h a : List ℕ) (g : Segment Key) (w : Answer) (area o :
   not-taken : (x : ℕ) → w ≡ refused x → o ≡ kind6 h x → SegmentReport h a g w area o
   -- 4 and 5: slot i, n octets; octet 5 is of the frame that caused the report
   held : (i n : ℕ) → w ≡ taken i n → o ≡ kind4 h (oct a 0) (g .key .invoke) (g .choice) i n → SegmentReport h a g w area o
-  complete : (i n k : ℕ) → w ≡ completed i n → counted (itemsOf (take n (drop (16384 * i) area))) ≡ Tally.Items k
+  complete : (i n k : ℕ) → w ≡ completed i n → ReadAs (take n (drop (16384 * i) area)) k
       → o ≡ kind5 h (oct a 0) (g .key .invoke) (g .choice) i n → SegmentReport h a g w area o
   -- "A completed message with bad tags is kind 6 with its tag number"
-  bad-tags : (i n x : ℕ) → w ≡ completed i n → counted (itemsOf (take n (drop (16384 * i) area))) ≡ Tally.Refused x → o ≡ kind6 h x → SegmentReport h a g w area o
+  bad-tags : (i n x : ℕ) → w ≡ completed i n → itemsOf (take n (drop (16384 * i) area)) ≡ ItemsRead.bad x → o ≡ kind6 h x → SegmentReport h a g w area o
 
 abbrev pub SegmentReported : Type 0
 SegmentReported = (e : Edition) (h d a : List ℕ) (g : Segment Key) → CarriesSegment e h d a g → (w : Answer) (area o : List ℕ)
     → (answeredAt e (good h d) w area ≡ o) ↔ SegmentReport h a g w area o
+
+-- ---- octet 1, "refusal number or 0": of the network header, the APDU header, the tags, the segment
+pub data NumberOf (n : ℕ) : Type 0 where
+  not-refused : n ≡ 0 → NumberOf n
+  of-npdu : Between 10 14 n → NumberOf n
+  of-apdu : Between 20 24 n → NumberOf n
+  of-tags : Between 30 39 n → NumberOf n
+  of-segment : Between 50 54 n → NumberOf n
 
 -- ---- every good frame, in an edition, over the slots s and the message area before it
 pub data Reported (e : Edition) (h d : List ℕ) (s : List (Slot Key)) (area o : List ℕ) : Type 0 where
@@ -205,6 +213,11 @@ pub data Reported (e : Edition) (h d : List ℕ) (s : List (Slot Key)) (area o :
 -- what the rules of ReadByPosition report of a good frame is o exactly when the page's words give o; of a damage it is kind 2 with its number
 abbrev pub GoodFrameReported : Type 0
 GoodFrameReported = (e : Edition) (h d : List ℕ) (s : List (Slot Key)) (area o : List ℕ) → (rules keys (bacnet e) .act (good h d) s area .0 ≡ o) ↔ Reported e h d s area o
+
+-- octet 1 of what they report of a good frame is 0 or a number of a network header, an APDU header, a tag or a segment. So 61, which listing answers for good tags
+-- where it is lent no octets, is reported of no frame
+abbrev pub ReportNumbers : Type 0
+ReportNumbers = (e : Edition) (h d : List ℕ) (s : List (Slot Key)) (area : List ℕ) → NumberOf (oct (rules keys (bacnet e) .act (good h d) s area .0) 1)
 
 abbrev pub DamageReported : Type 0
 DamageReported = (e : Edition) (n : ℕ) (s : List (Slot Key)) (area : List ℕ) → rules keys (bacnet e) .act (damage n) s area .0 ≡ kind2 n

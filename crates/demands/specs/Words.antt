@@ -26,7 +26,9 @@ use Rattle.messages.specs.Rows.Answer.{refused, taken, completed}
 use Rattle.rebuild.specs.View.{keys}
 use Rattle.rebuild.specs.declared.Key.{Key}
 use Rattle.tags.specs.Layout.{Thing}
+use Rattle.items.specs.Reading.{Out as ItemsRead, itemsOf}
 use Rattle.items.specs.Grammar.{encodeAll, Grammar}
+use Rattle.items.specs.Listing.{ReadAs}
 use Rattle.services.specs.Parts.{anyNumber}
 use Rattle.services.specs.Reading.{readService}
 use Rattle.services.specs.Shows.{messageOf, Shows}
@@ -100,6 +102,21 @@ pub record WritesBy (f : ℕ) (o area : List ℕ) (r : Written) (later : List �
   pub faulty : (f ≡ 0 → ⊥) → (r ≡ Refused f) × (later ≡ area)
   pub short : f ≡ 0 → length area < length o → (r ≡ Refused 61) × (later ≡ area)
   pub fine : f ≡ 0 → length o ≤ length area → (r ≡ Wrote (length o)) × (later ≡ o ++ drop (length o) area)
+
+-- ---- listing items in an area: n, the page's number of its answer, and the count that comes with it. "one operation that answers the item count and writes
+-- records if they fit. If they do not, it answers 61 with the count needed ..; tag refusals still come first"
+pub record ListNumbered (s area : List ℕ) (n count : ℕ) : Type 0 where
+  -- success exactly for k items whose records, 12 octets each, fit: so for no items whatever the area
+  pub fits : (k : ℕ) → ((n ≡ 0) × (count ≡ k)) ↔ (ReadAs s k × (12 * k ≤ length area))
+  -- 61 exactly for k items whose records do not fit, with k
+  pub small : (k : ℕ) → ((n ≡ 61) × (count ≡ k)) ↔ (ReadAs s k × (length area < 12 * k))
+  -- a tag's number, 30 to 39, exactly where the reading refuses with it, whatever the area, and the count 0
+  pub tags : (x : ℕ) → ((n ≡ x) × (count ≡ 0) × Between 30 39 x) ↔ (itemsOf s ≡ ItemsRead.bad x)
+  -- 39 "over 16,384 parameter octets (judged first)"
+  pub over : (n ≡ 39) ↔ (16384 < length s)
+  -- no other number; the count is "at most 2,048"
+  pub only : (n ≡ 0) ⊎ ((n ≡ 61) ⊎ Between 30 39 n)
+  pub most : count ≤ 2048
 
 -- ---- what a segment changes, by its answer: from the slots and the area of b to these
 -- 50 to 53 change nothing; 54 alone frees the key's slot, where it has one, and leaves the area

@@ -5,8 +5,8 @@ use mathlib.Core.Bool.{true, false}
 use mathlib.Core.List.{List}
 use lib.ListN.{length}
 use Rattle.items.specs.Records.{rec, recordOctets}
-use Rattle.items.specs.Reading.{itemsOf, counted, oneAt, endOf}
-use Rattle.items.specs.Listing.{Listed}
+use Rattle.items.specs.Reading.{oneAt, endOf}
+use Rattle.items.specs.Listing.{tallyNumber, tallyCount, Listed}
 use Rattle.items.specs.declared.Tally.{Tally}
 use Rattle.items.specs.declared.One.{One}
 use Rattle.items.specs.declared.One.the-variants.{Next}
@@ -14,11 +14,8 @@ use Rattle.reader.specs.Reading.{stepOf}
 use Rattle.reader.specs.declared.Step.{Step}
 use Rattle.reader.specs.declared.Step.the-variants.{Item, Group, End}
 use Rattle.hitchbarley.specs.Answers.{FillsTo}
-use Rattle.hitchbarley.specs.Items.{tallyNumber, tallyCount, oneNumber, onePlace, Counts, Lists, Steps, stepGood, stepNumber, stepRecord, stepPlace}
+use Rattle.hitchbarley.specs.Items.{oneNumber, onePlace, Lists, Steps, stepGood, stepNumber, stepRecord, stepPlace}
 use Rattle.hitchbarley.proofs.Answered.{fills-to-not, fills-to-good}
-
-pub counts : {s : List ℕ} {t : Tally} {r count : ℕ} → t ≡ counted (itemsOf s) → (r ≡ tallyNumber t) × (count ≡ tallyCount t) → Counts s r count
-counts e a = record { number = a .0 ∙ ap tallyNumber e; items = a .1 ∙ ap tallyCount e }
 
 pub lists : {s area later : List ℕ} {t : Tally} {r count : ℕ} → Listed s area t later → (r ≡ tallyNumber t) × (count ≡ tallyCount t) → Lists s area r count later
 lists l a = record { number = a .0 ∙ ap tallyNumber (l .answer); items = a .1 ∙ ap tallyCount (l .answer); after = l .after }

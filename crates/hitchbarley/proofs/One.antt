@@ -7,12 +7,12 @@ use lib.Dec.{eqb}
 use lib.ListN.{length}
 use Rattle.octets.specs.Choice.{pick}
 use Rattle.octets.specs.Laid.{answerOf, areaOf}
-use Rattle.items.specs.Reading.{itemsOf, counted, oneAt, endOf}
-use Rattle.items.specs.Listing.{listedOf, listing}
+use Rattle.items.specs.Reading.{itemsOf, oneAt, endOf}
+use Rattle.items.specs.Listing.{tallyNumber, tallyCount, listedOf, listing}
 use Rattle.collector.specs.declared.Collector.{Collector}
 use Rattle.state.specs.Calls.{Saves}
 use Rattle.hitchbarley.specs.Answers.{writtenNumber, writtenCount, Writes, Fills, FillsTo}
-use Rattle.hitchbarley.specs.Items.{tallyNumber, tallyCount, oneNumber, onePlace, Counts, Lists, Steps}
+use Rattle.hitchbarley.specs.Items.{oneNumber, onePlace, Lists, Steps}
 use Rattle.hitchbarley.specs.Trunk.{Feeds, Stills, Forgets}
 
 -- two that are one
@@ -29,9 +29,6 @@ module _ {r r′ : ℕ} where
   pub fills-to-one : {size f place : ℕ} {good : Bool} {o area later later′ : List ℕ} {n n′ : ℕ} → FillsTo size good f o place area r n later → FillsTo size good f o place area r′ n′ later′
       → (r ≡ r′) × (n ≡ n′) × (later ≡ later′)
   fills-to-one a b = let e = fills-one (a .filled) (b .filled) in (e .0, both-are (a .reached) (b .reached), e .1)
-
-  pub counts-one : {s : List ℕ} {n n′ : ℕ} → Counts s r n → Counts s r′ n′ → (r ≡ r′) × (n ≡ n′)
-  counts-one a b = (both-are (a .number) (b .number), both-are (a .items) (b .items))
 
   pub lists-one : {s area later later′ : List ℕ} {n n′ : ℕ} → Lists s area r n later → Lists s area r′ n′ later′ → (r ≡ r′) × (n ≡ n′) × (later ≡ later′)
   lists-one a b = (both-are (a .number) (b .number), both-are (a .items) (b .items), both-are (a .after) (b .after))
@@ -63,9 +60,6 @@ fills-some size good f o area = record { number = refl; after = refl }
 pub fills-to-some : (size : ℕ) (good : Bool) (f : ℕ) (o : List ℕ) (place : ℕ) (area : List ℕ)
     → FillsTo size good f o place area (pick (eqb (length area) size) f 60) (pick (eqb (length area) size) (pick good place 0) 0) (pick (eqb (length area) size) (pick good o area) area)
 fills-to-some size good f o place area = record { filled = fills-some size good f o area; reached = refl }
-
-pub counts-some : (s : List ℕ) → Counts s (tallyNumber (counted (itemsOf s))) (tallyCount (counted (itemsOf s)))
-counts-some s = record { number = refl; items = refl }
 
 pub lists-some : (s area : List ℕ) → Lists s area (tallyNumber (listedOf (length area) (itemsOf s))) (tallyCount (listedOf (length area) (itemsOf s))) (listing area (itemsOf s))
 lists-some s area = record { number = refl; items = refl; after = refl }

@@ -5,22 +5,12 @@ use mathlib.Core.Bool.{Bool, true, false}
 use mathlib.Core.List.{List, []}
 use lib.ListN.{length}
 use Rattle.items.specs.Records.{rec, recordOctets}
-use Rattle.items.specs.Reading.{itemsOf, counted, oneAt, endOf}
-use Rattle.items.specs.Listing.{listedOf, listing}
-use Rattle.items.specs.declared.Tally.{Tally}
-use Rattle.items.specs.declared.Tally.the-variants.{Items}
+use Rattle.items.specs.Reading.{itemsOf, oneAt, endOf}
+use Rattle.items.specs.Listing.{tallyNumber, tallyCount, listedOf, listing}
 use Rattle.items.specs.declared.One.{One}
 use Rattle.items.specs.declared.One.the-variants.{Next}
 use Rattle.reader.specs.declared.Step.{Step}
 use Rattle.reader.specs.declared.Step.the-variants.{Item, Group, End}
-
-abbrev pub tallyNumber : Tally → ℕ
-tallyNumber (Items n) = 0
-tallyNumber (Tally.Refused x) = x
-
-abbrev pub tallyCount : Tally → ℕ
-tallyCount (Items n) = n
-tallyCount (Tally.Refused x) = 0
 
 abbrev pub oneNumber : One → ℕ
 oneNumber (Next at) = 0
@@ -54,10 +44,6 @@ stepPlace (Item k n v p l to) = to
 stepPlace (Group n p to) = to
 stepPlace End = 0
 stepPlace (Step.Refused x) = 0
-
-pub record Counts (s : List ℕ) (r count : ℕ) : Type 0 where
-  pub number : r ≡ tallyNumber (counted (itemsOf s))
-  pub items : count ≡ tallyCount (counted (itemsOf s))
 
 pub record Lists (s area : List ℕ) (r count : ℕ) (later : List ℕ) : Type 0 where
   pub number : r ≡ tallyNumber (listedOf (length area) (itemsOf s))

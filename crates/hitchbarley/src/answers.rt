@@ -2,8 +2,8 @@
 use items::Tally;
 use octets::Written;
 ghost use mathlib.Core.Path.{_≡_};
+ghost use Rattle.items.specs.Listing.{tallyNumber, tallyCount};
 ghost use Rattle.hitchbarley.specs.Answers.{writtenNumber, writtenCount};
-ghost use Rattle.hitchbarley.specs.Items.{tallyNumber, tallyCount};
 
 // A writer's.
 pub fn written(w: Written, wrote: &mut usize) -> u8
@@ -21,7 +21,7 @@ pub fn written(w: Written, wrote: &mut usize) -> u8
     }
 }
 
-// Counting's and listing's.
+// Listing's.
 pub fn tallied(t: Tally, count: &mut usize) -> u8
     ensures { λ r. ⌜ (r ≡ tallyNumber t) × (now (count .exit) ≡ tallyCount t) ⌝ }
 {
@@ -29,6 +29,10 @@ pub fn tallied(t: Tally, count: &mut usize) -> u8
         Tally::Items(n) => {
             *count = n;
             0
+        }
+        Tally::Small(n) => {
+            *count = n;
+            61
         }
         Tally::Refused(x) => {
             *count = 0;

@@ -1,4 +1,4 @@
-// Tag items: counted, listed, stepped over, written.
+// Tag items: listed, stepped over, written.
 use crate::answers;
 use items::One;
 use reader::Step;
@@ -7,17 +7,9 @@ ghost use Rattle.items.specs.Grammar.{encodeAll};
 ghost use Rattle.item_judge.specs.Judge.{recordsIn, writeFault};
 ghost use Rattle.reader.specs.Reading.{stepOf};
 ghost use Rattle.hitchbarley.specs.Answers.{Writes, FillsTo};
-ghost use Rattle.hitchbarley.specs.Items.{Counts, Lists, Steps, stepGood, stepNumber, stepRecord, stepPlace};
+ghost use Rattle.hitchbarley.specs.Items.{Lists, Steps, stepGood, stepNumber, stepRecord, stepPlace};
 
-// How many items the octets are: 0 or 30 to 39.
-#[no_mangle]
-pub extern "C" fn hb_items_count(octets: &[u8], count: &mut usize) -> u8
-    ensures { λ r. ⌜ Counts (now (octets .entry)) r (now (count .exit)) ⌝ }
-{
-    answers::tallied(items::count(octets), count)
-}
-
-// The items' records, 12 octets each, and their count: 0, 30 to 39 or 61.
+// The items' records, 12 octets each, and their count: 0, 30 to 39, or 61 with the count needed and nothing written.
 #[no_mangle]
 pub extern "C" fn hb_items_list(octets: &[u8], listed: &mut [u8], count: &mut usize) -> u8
     ensures { λ r. ⌜ Lists (now (octets .entry)) (now (listed .entry)) r (now (count .exit)) (now (listed .exit)) ⌝ }

@@ -7,27 +7,24 @@ use mathlib.Core.Bool.{true}
 use lib.ListN.{length, take, drop}
 use lib.Seq.{take-append-seam, length-take-le, getD-take}
 use lib.Dec.{ltb, eqb}
-use borrow.Author.Tests.{ltb-false, eqb-true, eq-eqb}
+use borrow.Author.Tests.{eqb-true, eq-eqb}
 use Rattle.octets.specs.Choice.{pick, pick-so, pick-not, impossible}
 use Rattle.octets.specs.Reading.{Octets}
-use Rattle.octets.specs.Splice.{splice, splice-length}
 use Rattle.octets.specs.Numbers.{valueAt, value-shift}
 use Rattle.octets.specs.Laid.{Laid, answerOf, areaOf}
 use Rattle.octets.specs.declared.Written.the-variants.{Wrote, Refused}
-use Rattle.items.specs.Records.{Rec, recordAt, recordsAt, recordsOctets, thingsOf}
+use Rattle.items.specs.Records.{Rec, recordAt, recordsAt, thingsOf}
 use Rattle.items.specs.Reading.{itemsOf}
 use Rattle.items.specs.Reading.Out.{good}
 use Rattle.items.specs.Grammar.{encodeAll}
-use Rattle.items.specs.Listing.{Listed, listedOf, listing}
-use Rattle.items.specs.declared.Tally.{Tally}
+use Rattle.items.specs.Listing.{Listed}
 use Rattle.items.specs.declared.Tally.the-variants.{Items}
-use Rattle.items.proofs.RecordOctets.{records-length}
 use Rattle.items.proofs.Exact.{records-are}
 use Rattle.items.proofs.Back.{listed-back}
+use Rattle.items.proofs.Cases.{items-say, area-kept}
 use Rattle.item_judge.specs.Judge.{recordsIn, goodRecords, writeFault}
 use Rattle.item_judge.specs.Meaning.{AllAlike, ReadingOf}
 use Rattle.item_judge.proofs.Sixty.{takes-writable, reading-good}
-use Rattle.item_judge.proofs.Walk as walk
 
 -- what a writer that wrote n octets promised
 pub wrote : (f : ℕ) (o area : List ℕ) (n : ℕ) (later : List ℕ) → Laid f o area (Wrote n) later → (f ≡ 0) × (n ≡ length o) × (take n later ≡ o)
@@ -72,28 +69,13 @@ reading-writes o os rs end e =
     let l = records-are o os rs end e in
     reading-good o rs o (record { octets = os; records = rs; accepted = e ∙ ap (good rs) (l .1); same = all-same o rs })
 
--- the n records that listing laid are as long as 12 n octets of its area
-listed-room : (o lent listed : List ℕ) (n end : ℕ) → Listed o lent (Items n) listed → itemsOf o ≡ good (recordsAt listed 0 n) end → 12 * n ≤ length listed
-unfolding listedOf listing
-listed-room o lent listed n end w e =
-    let rs = recordsAt listed 0 n in
-    let count : length rs ≡ n = walk.records-length listed 0 n in
-    let long : length (recordsOctets rs) ≡ 12 * length rs = records-length rs in
-    let a : listedOf (length lent) (good rs end) ≡ Items n = rw e at (sym (w .answer)) in
-    let no : Tally.Refused 61 ≡ Items n → ⊥ = λ q. impossible (cc) in
-    let b = pick-not (ltb (length lent) (length (recordsOctets rs))) (Tally.Refused 61) (Items (length rs)) (Items n) no a in
-    let fits : length (recordsOctets rs) ≤ length lent = ltb-false _ _ (b .0) in
-    let after : listed ≡ splice lent 0 (recordsOctets rs) = w .after ∙ rw (e, b .0) in
-    let same : length listed ≡ length lent = ap length after ∙ splice-length lent 0 (recordsOctets rs) (omega arith) in
-    omega arith
-
 -- "Headers, tags and parameters that were read write back to the same octets": what listing laid, with the octets as the source, is written as these octets
 pub listed-writes : (o lent listed : List ℕ) (n : ℕ) → Octets o → Listed o lent (Items n) listed
     → (writeFault (take (12 * n) listed) o ≡ 0) × (encodeAll (thingsOf o (recordsIn (take (12 * n) listed))) ≡ o)
 unfolding writeFault
 listed-writes o lent listed n os w =
     let b = listed-back o os lent listed n w in
-    let room = listed-room o lent listed n (b .0) w (b .1) in
+    let room : 12 * n ≤ length listed = omega (arith, items-say o lent listed (Items n) w refl .1, area-kept o lent listed (Items n) w) in
     let len : length (take (12 * n) listed) ≡ 12 * n = length-take-le (12 * n) listed room in
     let whole : length (take (12 * n) listed) % 12 ≡ 0 = rw len (omega arith) in
     let many : length (take (12 * n) listed) / 12 ≡ n = rw len (omega arith) in

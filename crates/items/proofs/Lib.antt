@@ -7,6 +7,8 @@ pub mod RecordOctets
 pub mod Ways
 pub mod Longest
 pub mod Listing
+pub mod Cases
+pub mod Most
 pub mod Left
 pub mod Exact
 pub mod Closing

@@ -58,7 +58,7 @@ walk (suc k) s at groups = pick (leb (length s) at) (ending at groups) (step (wa
 unfoldable pub itemsOf : List ℕ → Out
 itemsOf s = refuse (ltb longest (length s)) (bad 39) (walk mostItems s 0 [])
 
--- what counting answers
+-- what the reading of all items answers, whatever it is lent
 unfoldable pub counted : Out → Tally
 counted (good rs end) = Items (length rs)
 counted (bad x) = Tally.Refused x

@@ -1,16 +1,17 @@
-// Tag items: counted, listed, and read one by one.
+// Tag items: listed, and read one by one.
 mod cycle;
 mod records;
 
 use tags::Tag;
 ghost use mathlib.Core.Path.{_≡_};
-ghost use Rattle.items.specs.Reading.{itemsOf, counted, itemAt, oneAt, endOf};
+ghost use Rattle.items.specs.Reading.{itemAt, oneAt, endOf};
 ghost use Rattle.items.specs.Cycle.{Ran};
 ghost use Rattle.items.specs.Listing.{Listed};
 
-// What counting and listing answer: the number of items, or the number of the refusal.
+// What listing answers: the number of items; 61 with the number needed, where their records do not fit; or the number of a tag's refusal.
 pub enum Tally {
     Items(usize),
+    Small(usize),
     Refused(u8),
 }
 
@@ -88,26 +89,26 @@ fn run(s: &[u8], out: &mut [u8]) -> Tally
     Tally::Items(k)
 }
 
-// How many items the octets are.
-pub fn count(s: &[u8]) -> Tally
-    ensures { λ r. ⌜ r ≡ counted (itemsOf (now (s .entry))) ⌝ }
-{
-    let mut none = [0u8; 0];
-    run(s, &mut none)
-}
-
-// Writes the record of each item, 12 octets each, where there is room for all of them.
+// The number of items, and the record of each, 12 octets each, where there is room for all of them. Octets are lent for the records only when the
+// last tag is judged, so that nothing is written where anything is refused.
 pub fn list(s: &[u8], out: &mut [u8]) -> Tally
     ensures { λ r. ⌜ Listed (now (s .entry)) (now (out .entry)) r (now (out .exit)) ⌝ }
 {
-    let c = count(s);
+    let mut none = [0u8; 0];
+    let c = run(s, &mut none);
     match c {
         Tally::Items(n) => {
+            // No items: nothing is to be written, whatever the area.
+            if n == 0 {
+                return Tally::Items(0);
+            }
             if out.len() / 12 < n {
-                return Tally::Refused(61);
+                return Tally::Small(n);
             }
             run(s, out)
         }
+        // The reading of all items never answers so.
+        Tally::Small(n) => Tally::Small(n),
         Tally::Refused(x) => Tally::Refused(x),
     }
 }

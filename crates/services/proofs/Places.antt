@@ -19,17 +19,17 @@ use Rattle.tags.specs.declared.Tag.the-variants.{Item, Opening, Closing}
 use Rattle.tags.proofs.Bounds.{TagIn, head-in}
 use Rattle.tags.proofs.Exact.{head-sound}
 use Rattle.items.specs.Records.{Rec, rec}
-use Rattle.items.specs.Reading.{Out, itemsOf, counted, more, step, itemAt, endOf, within, mostItems}
+use Rattle.items.specs.Reading.{Out, itemsOf, more, step, itemAt, endOf, within, mostItems}
 use Rattle.items.specs.Reading.Out.{good, bad}
 use Rattle.items.specs.Left.{Left, Opens, AllDeep}
 use Rattle.items.specs.declared.One.{One}
-use Rattle.items.specs.declared.Tally.{Tally}
+use Rattle.items.specs.Listing.{ReadAs}
 use Rattle.items.proofs.Left.{left-all, left-end, left-refused, left-closing, left-item, left-group}
 use Rattle.items.proofs.Machine.{more-good}
 use Rattle.items.proofs.Onward.{within-past}
 use Rattle.items.proofs.Steps.{tag-in}
 use Rattle.services.specs.Parts.{Then, is, present, wanted, numberOf, numberRule, anyNumber, contextNumber, contextObject, afterGroup, group, last}
-use Rattle.services.specs.Reading.{targetParts, layoutFor, afterTags, readService}
+use Rattle.services.specs.Reading.{targetParts, layoutFor, readService}
 use Rattle.services.specs.Places.{foundIn, Answers, Goes, Stops, Presence, indexPart, Topped, OptionalTopped, PartSays, OptionalSays, TargetSays, ValueSays}
 use Rattle.services.specs.declared.Answer.{Answer}
 use Rattle.services.specs.declared.Answer.the-variants.{Refused}
@@ -299,18 +299,10 @@ target-rest s a b v property g h (TargetPart.Refused x) w = λ next. g _ (Refuse
 
 -- the whole reading
 module _ (kind choice : ℕ) (s : List ℕ) where
-  pub read-good : (n : ℕ) → counted (itemsOf s) ≡ Tally.Items n → (r : Answer) → Answers s 0 (layoutFor kind choice s) r → r ≡ readService kind choice s
-  unfolding readService counted
-  read-good n e r h = go (itemsOf s) refl e
-    where
-      go : (o : Out) → itemsOf s ≡ o → counted o ≡ Tally.Items n → r ≡ afterTags (layoutFor kind choice s) (itemsOf s)
-      go (good rs end) f g = rw f (h rs (left-all s rs end f))
-      go (bad x) f g = impossible (cc)
+  pub read-good : (n : ℕ) → ReadAs s n → (r : Answer) → Answers s 0 (layoutFor kind choice s) r → r ≡ readService kind choice s
+  unfolding readService
+  read-good n (rs, end, e, k) r h = rw e (h rs (left-all s rs end e))
 
-  pub read-bad : (x : ℕ) → counted (itemsOf s) ≡ Tally.Refused x → Refused x ≡ readService kind choice s
-  unfolding readService counted
-  read-bad x e = go (itemsOf s) e
-    where
-      go : (o : Out) → counted o ≡ Tally.Refused x → Refused x ≡ afterTags (layoutFor kind choice s) o
-      go (good rs end) g = impossible (cc)
-      go (bad y) g = let z : y ≡ x = cc in rw z
+  pub read-bad : (x : ℕ) → itemsOf s ≡ bad x → Refused x ≡ readService kind choice s
+  unfolding readService
+  read-bad x e = rw e

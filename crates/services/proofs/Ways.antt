@@ -15,10 +15,13 @@ use Rattle.tags.specs.Reading.{headAt}
 use Rattle.tags.specs.declared.Tag.{Tag}
 use Rattle.tags.specs.declared.Tag.the-variants.{Item, Opening, Closing}
 use Rattle.items.specs.Records.{Rec, rec}
-use Rattle.items.specs.Reading.{itemsOf, counted, itemAt, endOf}
+use Rattle.items.specs.Reading.{itemAt, endOf}
+use Rattle.items.specs.Listing.{Listed}
 use Rattle.items.specs.Left.{Left}
 use Rattle.items.specs.declared.One.{One}
 use Rattle.items.specs.declared.Tally.{Tally}
+use Rattle.items.specs.declared.Tally.the-variants.{Items, Small}
+use Rattle.items.proofs.Cases.{items-say, small-says, refused-says}
 use Rattle.services.specs.Parts.{Then, wanted, numberOf, numberRule, objectRule, anyNumber, contextNumber, contextObject, optionalNumber, group, last}
 use Rattle.services.specs.Reading.{targetParts, readProperty, readPropertyAck, writeProperty, whoIs, deviceRule, iAm, errorOf, layoutFor, readService}
 use Rattle.services.specs.Places.{foundIn, Answers, Goes, Stops, PartSays, Topped, Presence, optionalPart, OptionalSays, OptionalTopped, TargetSays, ValueSays, indexPart, limitsPart}
@@ -303,10 +306,14 @@ module _ (s : List ℕ) where
       unfolding layoutFor
       none-kind a b c d rs w = rw (ne-eqb kind 0 a, ne-eqb kind 1 b, ne-eqb kind 3 c, ne-eqb kind 5 d)
 
-      -- the whole reading, x being the count of the items
-      module _ (x : Tally) (e : x ≡ counted (itemsOf s)) where
-        pub read-items : (n : ℕ) → x ≡ Tally.Items n → (r : Answer) → Answers s 0 (layoutFor kind choice s) r → r ≡ readService kind choice s
-        read-items n q r h = Places.read-good kind choice s n (sym e ∙ q) r h
+      -- the whole reading, x being the answer of listing the items, whatever it was lent
+      module _ (area later : List ℕ) (x : Tally) (w : Listed s area x later) where
+        pub read-items : (n : ℕ) → x ≡ Items n → (r : Answer) → Answers s 0 (layoutFor kind choice s) r → r ≡ readService kind choice s
+        read-items n q r h = Places.read-good kind choice s n (items-say s area later x w q .0) r h
+
+        -- 61 taken as good
+        pub read-small : (n : ℕ) → x ≡ Small n → (r : Answer) → Answers s 0 (layoutFor kind choice s) r → r ≡ readService kind choice s
+        read-small n q r h = Places.read-good kind choice s n (small-says s area later x w q .0) r h
 
         pub read-not : (n : ℕ) → x ≡ Tally.Refused n → Refused n ≡ readService kind choice s
-        read-not n q = Places.read-bad kind choice s n (sym e ∙ q)
+        read-not n q = Places.read-bad kind choice s n (refused-says s area later x w q)

@@ -40,6 +40,8 @@ fn listed(book: &[u8], s: &[u8], records: &mut [u8], out: &mut [u8], at: usize) 
     let n = items::list(s, records);
     match n {
         Tally::Items(k) => list::text(book, s, k, records, out, at),
+        // Not met: room for 2,048 records is lent.
+        Tally::Small(_) => refused(book, 61, s, out, at),
         Tally::Refused(x) => refused(book, x, s, out, at),
     }
 }

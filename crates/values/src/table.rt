@@ -117,6 +117,8 @@ fn listed(
             }
             every(book, s, k, records, from, front, out, at)
         }
+        // Neither is met: a value that was read has good items, and room for 2,048 records is lent.
+        Tally::Small(_) => ended(at, 0, false),
         Tally::Refused(_) => ended(at, 0, false),
     }
 }
