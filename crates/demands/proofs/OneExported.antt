@@ -7,7 +7,7 @@ use lib.Dec.{eqb}
 use lib.ListN.{length}
 use Rattle.octets.specs.Choice.{pick}
 use Rattle.octets.specs.Reading.{Octets}
-use Rattle.octets.specs.Laid.{answerOf, areaOf}
+use Rattle.octets.specs.Laid.{writtenCount, answerOf, areaOf}
 use Rattle.items.specs.Reading.{itemsOf, oneAt, endOf}
 use Rattle.items.specs.Listing.{tallyNumber, tallyCount, listedOf, listing}
 use Rattle.collector.specs.Calls.{freshCollector}
@@ -15,7 +15,7 @@ use Rattle.state.specs.Edition.{editionOf}
 use Rattle.state.specs.Layout.{stateSize, stateOctets}
 use Rattle.state.specs.Calls.{Saves}
 use Rattle.hitchbarley.specs.Trunk as Trunk
-use Rattle.hitchbarley.specs.Answers.{writtenNumber, writtenCount, Writes, Fills, FillsTo}
+use Rattle.hitchbarley.specs.Answers.{writtenNumber, Writes, Fills, FillsTo}
 use Rattle.hitchbarley.specs.Items.{oneNumber, onePlace, Lists, Steps}
 use Rattle.hitchbarley.proofs.One.{writes-one, fills-one, fills-to-one, lists-one, steps-one, saves-one, feeds-one, stills-one, forgets-one, writes-some, fills-some, fills-to-some, lists-some, steps-some}
 use Rattle.hitchbarley.proofs.Kept.{saves-some, feeds-some, stills-some, forgets-some}
