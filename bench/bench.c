@@ -8,6 +8,11 @@
      bench header CALLS OCTETS     makes so many calls that run the header's check over so many octets, and says nothing
      bench data CALLS OCTETS       the same of the data's check
      bench items CALLS ITEMS LENT  makes so many calls that list so many items, so many octets lent for each (the plain one counts them), and says nothing
+     bench frame CALLS OCTETS      makes so many calls that write a frame around so many data octets, and says nothing
+     bench cut CALLS OCTETS EACH   makes so many calls that cut a complex ack of so many parameter octets, so many to a segment, and says nothing
+     bench traffic                 the recording `cut`: messages that the library cuts and frames (the proved library alone)
+     bench written FILE PIECE      how many good frames of a recording the library writes just so, how many messages are complete, and how many of these
+                                   it cuts just so; the end is 1 where a frame differs (the proved library alone)
      bench sizes                   the size of the state
      bench stacks                  the stack of each call but hb_feed (the proved library alone)
      bench run FILE PIECE RUNS [LESS]   feeds the first RUNS runs of octets (silences and forget orders end a run), the last LESS octets of the
@@ -29,6 +34,7 @@ static uint8_t report[16], area[AREA], octets[MOST], file[4 * MOST];
 static struct { uint32_t at; uint8_t kind, value; } events[MOST]; /* each after so many octets */
 static size_t octet_count, event_count, record_count;
 static uint8_t later; /* the edition: 0 is 1995 */
+static const uint8_t whole_ack[13] = {3, 0, 0, 0, 0, 0, 0, 1, 0, 8, 14, 0, 0}; /* the record of a complex ack that is cut: invoke ID 1, window 8, choice 14 */
 
 /* ---- the listener */
 
@@ -41,6 +47,12 @@ static void forget(uint8_t slot) { plain_forget(&state, slot); }
 static void header_run(const uint8_t *s, size_t n) { plain_header_run(0xFF, s, n); }
 static void data_run(const uint8_t *s, size_t n) { plain_data_run(0xFFFF, s, n); }
 static void list(const uint8_t *s, size_t n, size_t lent) { (void)lent; plain_items(s, n); }
+static void frame_of(const uint8_t *s, size_t n) { plain_frame(6, 1, 3, s, n, area, AREA); }
+static void cut_of(const uint8_t *s, size_t n, size_t each)
+{
+    size_t segments;
+    plain_cut(whole_ack, later, 0, 0, each, s, n, area, AREA, &segments);
+}
 #else
 #include "proved.h"
 #endif
@@ -201,8 +213,8 @@ static void empty(size_t calls)
 #endif
 }
 
-/* The check sums by themselves, over zeros. */
-static void sums(void (*run)(const uint8_t *, size_t), size_t calls, size_t n)
+/* The check sums, or writing frames, by themselves, over zeros. */
+static void calls_of(void (*run)(const uint8_t *, size_t), size_t calls, size_t n)
 {
     while (calls--) run(octets, n);
 }
@@ -212,6 +224,12 @@ static void items(size_t calls, size_t n, size_t lent)
 {
     for (size_t i = 0; i < n; i++) octets[2 * i] = 0x21, octets[2 * i + 1] = 0x05;
     while (calls--) list(octets, 2 * n, lent * n);
+}
+
+/* Cutting by itself, over zeros. */
+static void cuts(size_t calls, size_t n, size_t each)
+{
+    while (calls--) cut_of(octets, n, each);
 }
 
 /* ---- the stack: painted, used, read back */
@@ -238,6 +256,9 @@ static size_t used_by(void (*work)(void))
 
 #ifndef PLAIN
 #include "stacks.h"
+#ifndef REPLAYED
+#include "traffic.h"
+#endif
 #endif
 
 static int begin(int argc, char **argv)
@@ -249,6 +270,12 @@ static int begin(int argc, char **argv)
         stacks(used_by);
         return 0;
     }
+#ifndef REPLAYED
+    if (same(mode, "traffic")) {
+        traffic();
+        return 0;
+    }
+#endif
 #endif
     if (same(mode, "sizes")) {
         say_number(sizeof state, 10, 1);
@@ -257,19 +284,30 @@ static int begin(int argc, char **argv)
     }
     if (argc < 4) {
         say("usage: bench [later] reports FILE PIECE | stack FILE PIECE | run FILE PIECE RUNS | empty FILE CALLS RUNS LESS |\n"
-            "       header CALLS OCTETS | data CALLS OCTETS | items CALLS ITEMS LENT | sizes\n");
+            "       header CALLS OCTETS | data CALLS OCTETS | items CALLS ITEMS LENT | frame CALLS OCTETS | cut CALLS OCTETS EACH | sizes |\n"
+            "       stacks | traffic | written FILE PIECE\n");
         return 2;
     }
-    if (same(mode, "header") || same(mode, "data")) {
-        sums(same(mode, "header") ? header_run : data_run, number_of(argv[2]), number_of(argv[3]));
+    if (same(mode, "header") || same(mode, "data") || same(mode, "frame")) {
+        calls_of(same(mode, "header") ? header_run : same(mode, "data") ? data_run : frame_of, number_of(argv[2]), number_of(argv[3]));
         return 0;
     }
     if (same(mode, "items")) {
         items(number_of(argv[2]), number_of(argv[3]), argc < 5 ? 0 : number_of(argv[4]));
         return 0;
     }
+    if (same(mode, "cut")) {
+        cuts(number_of(argv[2]), number_of(argv[3]), argc < 5 ? 1 : number_of(argv[4]));
+        return 0;
+    }
     load(argv[2]);
     piece = number_of(argv[3]);
+#if !defined PLAIN && !defined REPLAYED
+    if (same(mode, "written")) {
+        written();
+        return 0;
+    }
+#endif
     runs = argc < 5 ? (size_t)-1 : number_of(argv[4]);
     less = argc < 6 ? 0 : number_of(argv[5]);
     telling = same(mode, "reports");

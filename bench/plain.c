@@ -513,3 +513,58 @@ int plain_forget(struct plain *p, unsigned slot)
     p->slots[slot] = (struct plain_slot){0};
     return 0;
 }
+
+/* ---- frames written, messages cut */
+
+int plain_frame(unsigned type, unsigned destination, unsigned source, const uint8_t *s, size_t n, uint8_t *out, size_t room)
+{
+    uint16_t sum;
+    if (501 < n) return -64;
+    if (room < (n ? n + 10 : 8)) return -61;
+    out[0] = 0x55;
+    out[1] = 0xFF;
+    out[2] = (uint8_t)type;
+    out[3] = (uint8_t)destination;
+    out[4] = (uint8_t)source;
+    out[5] = (uint8_t)(n >> 8);
+    out[6] = (uint8_t)n;
+    out[7] = (uint8_t)~plain_header_run(0xFF, out + 2, 5);
+    if (n == 0) return 8;
+    for (size_t i = 0; i < n; i++) out[8 + i] = s[i];
+    sum = (uint16_t)~plain_data_run(0xFFFF, s, n);
+    out[8 + n] = (uint8_t)sum;
+    out[9 + n] = (uint8_t)(sum >> 8);
+    return (int)n + 10;
+}
+
+/* Record octets: 0 type, 3 SA, 6 size code, 7 invoke ID, 9 window, 10 choice, 12 segments accepted. */
+int plain_cut(const uint8_t *fields, int later, int reply, unsigned priority, size_t each, const uint8_t *s, size_t n, uint8_t *out, size_t room, size_t *segments)
+{
+    size_t count, to = 0;
+    int request = fields[0] == 0;
+    if (ROOM < n) return -39;
+    if (each < 1 || 474 < each || fields[9] < 1 || 127 < fields[9]) return -64;
+    if (3 < priority) return -12;
+    if (!request && fields[0] != 3) return -21;
+    if (request && (later ? 7 : 0) < fields[12]) return -22;
+    if (request && 5 < fields[6]) return -23;
+    count = n ? (n + each - 1) / each : 1;
+    if (256 < count) return -63;
+    if (room < count * (request ? 8 : 7) + n) return -61;
+    for (size_t k = 0; k < count; k++) {
+        const uint8_t *part = s + k * each;
+        size_t length = k + 1 < count ? each : n - k * each;
+        out[to++] = 1;
+        out[to++] = (uint8_t)((reply ? 4 : 0) | priority);
+        out[to++] = (uint8_t)(fields[0] << 4 | 8 | (k + 1 < count ? 4 : 0) | (request && fields[3] ? 2 : 0));
+        if (request) out[to++] = (uint8_t)(fields[12] << 4 | fields[6]);
+        out[to++] = fields[7];
+        out[to++] = (uint8_t)k;
+        out[to++] = fields[9];
+        out[to++] = fields[10];
+        for (size_t i = 0; i < length; i++) out[to + i] = part[i];
+        to += length;
+    }
+    *segments = count;
+    return (int)to;
+}

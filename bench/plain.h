@@ -45,4 +45,10 @@ uint16_t plain_data_run(uint16_t sum, const uint8_t *s, size_t n);
 /* How many tag items these octets are, or minus the refusal number. */
 int plain_items(const uint8_t *s, size_t n);
 
+/* A frame around these data: its octets, or minus the refusal number. */
+int plain_frame(unsigned type, unsigned destination, unsigned source, const uint8_t *s, size_t n, uint8_t *out, size_t room);
+
+/* A message cut, by the record that the proved library has of an APDU header: its octets, or minus the refusal number. */
+int plain_cut(const uint8_t *fields, int later, int reply, unsigned priority, size_t each, const uint8_t *s, size_t n, uint8_t *out, size_t room, size_t *segments);
+
 #endif

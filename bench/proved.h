@@ -8,6 +8,16 @@ static void list(const uint8_t *s, size_t n, size_t lent)
     size_t count;
     hb_items_list(s, n, area, lent, &count);
 }
+static void frame_of(const uint8_t *s, size_t n)
+{
+    size_t wrote;
+    hb_frame_write(6, 1, 3, s, n, area, AREA, &wrote);
+}
+static void cut_of(const uint8_t *s, size_t n, size_t each)
+{
+    size_t wrote, segments;
+    hb_cut(whole_ack, HB_APDU, later, 0, 0, each, s, n, area, AREA, &wrote, &segments);
+}
 #ifdef REPLAYED
 static void leave(int status);
 static size_t replay(const uint8_t *records, size_t n, int *reported)

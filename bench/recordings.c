@@ -48,7 +48,7 @@ static unsigned below(unsigned n) /* a number from 0 to n - 1 */
     return (unsigned)((seed >> 33) % n);
 }
 
-/* ---- frames */
+/* ---- frames: made here and by no other code, so that the library's writers can be held against them (bench/traffic.h) */
 
 static uint8_t frame[520];
 static int frame_length;

@@ -459,6 +459,149 @@ static void services_tried(void)
     tell("hb_service_write");
 }
 
+/* ---- frames written, messages cut ---- */
+
+/* One call that is lent so many octets of EE: its number, and the frame that it writes; all behind it is as it was. */
+static void frame_written(const char *frame, size_t lent, uint8_t number)
+{
+    struct octets f = of(frame);
+    uint8_t got[sizeof f.s], wanted[sizeof f.s];
+    size_t data = f.n == 8 ? 0 : f.n - 10, wrote = 99;
+    memset(got, 0xEE, sizeof got);
+    memset(wanted, 0xEE, sizeof wanted);
+    if (number == 0) memcpy(wanted, f.s, f.n);
+    want(hb_frame_write(f.s[2], f.s[3], f.s[4], f.s + 8, data, got, lent, &wrote) == number && wrote == (number ? 0 : f.n));
+    want(memcmp(got, wanted, sizeof got) == 0);
+}
+
+/* Frames of 004: a poll, Who-Is, the ReadProperty ack. */
+static void frames_written(void)
+{
+    static const char *frames[] = {"55 FF 01 02 01 00 00 F5", "55 FF 06 FF 01 00 08 85 01 20 FF FF 00 FF 10 08 15 B6",
+                                   "55 FF 06 01 03 00 13 39 01 00 30 00 0C 0C 00 00 00 01 19 55 3E 44 42 39 99 9A 3F 36 C6"};
+    static uint8_t data[502], out[512];
+    size_t wrote;
+    for (size_t i = 0; i < sizeof frames / sizeof *frames; i++) {
+        size_t n = of(frames[i]).n;
+        frame_written(frames[i], n, 0);
+        frame_written(frames[i], n + 9, 0);
+        frame_written(frames[i], n - 1, HB_SMALL);
+        frame_written(frames[i], 0, HB_SMALL);
+    }
+    /* the most data octets, and one more: 64 before 61 */
+    want(hb_frame_write(6, 1, 3, data, 501, out, 511, &wrote) == 0 && wrote == 511 && hb_data_run(0xFFFF, out + 8, 503) == 0xF0B8);
+    want(hb_frame_write(6, 1, 3, data, 502, out, 512, &wrote) == HB_RANGE && wrote == 0);
+    want(hb_frame_write(6, 1, 3, data, 502, out, 0, &wrote) == HB_RANGE && wrote == 0);
+    tell("hb_frame_write");
+}
+
+/* What is cut: by an edition, a header's record and the parameters, so many of them to a segment; then its NPDUs end to end. */
+struct whole {
+    uint8_t later, reply, priority;
+    size_t each;
+    const char *record, *params;
+    size_t segments;
+    const char *npdus;
+};
+
+static const struct whole wholes[] = {
+    /* the ReadProperty ack of 004, in two segments that are full */
+    {0, 0, 0, 7, "03 00 00 00 00 00 00 00 00 01 0C 00 00", "0C 00 00 00 01 19 55 3E 44 42 39 99 9A 3F", 2,
+     "01 00 3C 00 00 01 0C 0C 00 00 00 01 19 55  01 00 38 00 01 01 0C 3E 44 42 39 99 9A 3F"},
+    /* the WriteProperty request of 004, reply expected; SEG, MOR and number of the record are not looked at */
+    {0, 1, 0, 5, "00 00 01 01 00 00 03 05 09 04 0F 00 00", "0C 01 00 00 01 19 55 3E 91 00 3F 49 07", 3,
+     "01 04 0E 03 05 00 04 0F 0C 01 00 00 01  01 04 0E 03 05 01 04 0F 19 55 3E 91 00  01 04 0A 03 05 02 04 0F 3F 49 07"},
+    /* the same by the later edition, from one that accepts more than 64 segments, at priority 3, in one segment */
+    {1, 1, 3, 474, "00 00 00 01 00 00 03 05 00 7F 0F 00 07", "0C 01 00 00 01 19 55 3E 91 00 3F 49 07", 1,
+     "01 07 0A 73 05 00 7F 0F 0C 01 00 00 01 19 55 3E 91 00 3F 49 07"},
+    /* no parameters: one segment */
+    {0, 0, 0, 1, "03 00 00 00 00 00 00 07 00 01 0E 00 00", "", 1, "01 00 38 07 00 01 0E"},
+};
+
+/* One call that is lent so many octets of EE: its number, its segments and the NPDUs; all behind them is as it was. */
+static void cut(struct whole w, struct octets record, struct octets params, size_t lent, uint8_t number)
+{
+    struct octets o = of(w.npdus);
+    uint8_t got[sizeof o.s], wanted[sizeof o.s];
+    size_t wrote = 99, segments = 99;
+    memset(got, 0xEE, sizeof got);
+    memset(wanted, 0xEE, sizeof wanted);
+    if (number == 0) memcpy(wanted, o.s, o.n);
+    want(hb_cut(record.s, record.n, w.later, w.reply, w.priority, w.each, params.s, params.n, got, lent, &wrote, &segments) == number);
+    want(wrote == (number ? 0 : o.n) && segments == (number ? 0 : w.segments));
+    want(memcmp(got, wanted, sizeof got) == 0);
+}
+
+/* The NPDUs framed by hb_frame_write as type 6 and fed to a fresh state of the edition: each but the last is held, and the last completes the message. */
+static void cut_and_fed(struct whole w)
+{
+    struct octets o = of(w.npdus), p = of(w.params), f;
+    size_t head = of(w.record).s[0] ? 7 : 8;
+    uint8_t reports[HB_REPORT] = {4, 0, 6, 1, 3};
+    want(hb_fresh(state, HB_STATE, w.later) == 0);
+    for (size_t k = 0; k < w.segments; k++) {
+        size_t at = k * (head + w.each), n = k + 1 < w.segments ? head + w.each : o.n - at, eaten;
+        uint8_t reported;
+        want(hb_frame_write(6, 1, 3, o.s + at, n, f.s, sizeof f.s, &f.n) == 0);
+        want(hb_feed(state, HB_STATE, f.s, f.n, report, HB_REPORT, area, HB_AREA, &eaten, &reported) == 0 && eaten == f.n && reported == 1);
+        reports[0] = k + 1 < w.segments ? 4 : 5;
+        reports[5] = o.s[at + 2];
+        reports[6] = o.s[at + head - 4];
+        reports[11] = (uint8_t)(k + 1 < w.segments ? (k + 1) * w.each : p.n);
+        reports[12] = o.s[at + head - 1];
+        want(memcmp(report, reports, HB_REPORT) == 0);
+    }
+    want_octets(area, p.n, p);
+}
+
+/* What is refused, from all of it to none: each is mended behind its number, so the next one is met. */
+static void cut_refused(void)
+{
+    static const uint8_t nulls[HB_SLOT + 1];
+    static uint8_t out[8 * 256 + HB_SLOT];
+    uint8_t r[HB_APDU] = {1, 0, 0, 0, 0, 0, 6, 1, 0, 0, 12, 0, 8}, priority = 4;
+    size_t fields = HB_APDU - 1, n = sizeof nulls, each = 475, lent = sizeof out - 1, wrote, segments;
+    static const uint8_t numbers[] = {HB_NO_AREA, HB_ITEM_OCTETS, HB_RANGE, HB_RANGE, HB_NPDU_CONTROL, HB_APDU_TYPE, HB_APDU_BITS, HB_APDU_SIZE, HB_SEGMENTS, HB_SMALL, 0};
+    for (size_t i = 0; i < sizeof numbers; i++) {
+        want(hb_cut(r, fields, 1, 0, priority, each, nulls, n, out, lent, &wrote, &segments) == numbers[i]);
+        want(wrote == (numbers[i] ? 0 : sizeof out) && segments == (numbers[i] ? 0 : 256));
+        switch (i) {
+        case 0: fields = HB_APDU; break;
+        case 1: n = HB_SLOT; break;
+        case 2: each = 63; break; /* 261 segments; by 64 they are 256 */
+        case 3: r[9] = 127; break;
+        case 4: priority = 3; break;
+        case 5: r[0] = 0; break;
+        case 6: r[12] = 7; break;
+        case 7: r[6] = 5; break;
+        case 8: each = 64; break;
+        case 9: lent = sizeof out; break;
+        }
+    }
+}
+
+static void messages_cut(void)
+{
+    for (size_t i = 0; i < sizeof wholes / sizeof *wholes; i++) {
+        struct whole w = wholes[i];
+        struct octets r = of(w.record), p = of(w.params);
+        size_t n = of(w.npdus).n;
+        cut(w, r, p, n, 0);
+        cut(w, r, p, n + 9, 0);
+        cut(w, r, p, n - 1, HB_SMALL);
+        cut(w, r, p, 0, HB_SMALL);
+        r.n--;
+        cut(w, r, p, n, HB_NO_AREA);
+        r.n++;
+        r.s[9] = 128;
+        cut(w, r, p, n, HB_RANGE);
+    }
+    cut_refused();
+    tell("hb_cut");
+    for (size_t i = 0; i < sizeof wholes / sizeof *wholes; i++) cut_and_fed(wholes[i]);
+    tell("messages cut, framed and fed");
+}
+
 int main(void)
 {
     trunk();
@@ -482,5 +625,7 @@ int main(void)
     editions_compared();
     items();
     services_tried();
+    frames_written();
+    messages_cut();
     return differs;
 }

@@ -179,6 +179,78 @@ fn params() -> bool {
     }
 }
 
+// One call that writes a frame: its number and the octets.
+fn frame(kind: u8, destination: u8, source: u8, payload: &[u8], area: &mut [u8]) -> (u8, usize) {
+    let mut wrote = 99;
+    let number = unsafe {
+        hb_frame_write(
+            kind,
+            destination,
+            source,
+            payload.as_ptr(),
+            payload.len(),
+            area.as_mut_ptr(),
+            area.len(),
+            &mut wrote,
+        )
+    };
+    (number, wrote)
+}
+
+// One call that cuts a message by the edition of 1995: its number, the octets and the segments.
+fn cut(fields: &[u8], each: usize, params: &[u8], area: &mut [u8]) -> (u8, usize, usize) {
+    let (mut wrote, mut segments) = (99, 99);
+    let number = unsafe {
+        hb_cut(
+            fields.as_ptr(),
+            fields.len(),
+            0,
+            0,
+            0,
+            each,
+            params.as_ptr(),
+            params.len(),
+            area.as_mut_ptr(),
+            area.len(),
+            &mut wrote,
+            &mut segments,
+        )
+    };
+    (number, wrote, segments)
+}
+
+// A poll and the ReadProperty ack of 004 as frames; then the ack in two segments, framed, and the message that they are fed as.
+fn written() -> bool {
+    let (poll, ack) = (of("55 FF 01 02 01 00 00 F5"), of("55 FF 06 01 03 00 13 39 01 00 30 00 0C 0C 00 00 00 01 19 55 3E 44 42 39 99 9A 3F 36 C6"));
+    let (record, params) = (of("03 00 00 00 00 00 00 00 00 01 0C 00 00"), of("0C 00 00 00 01 19 55 3E 44 42 39 99 9A 3F"));
+    let npdus = of("01 00 3C 00 00 01 0C 0C 00 00 00 01 19 55 01 00 38 00 01 01 0C 3E 44 42 39 99 9A 3F");
+    let (mut one, mut two, mut out, mut frames) = ([0xEEu8; 8], [0xEEu8; 29], [0xEEu8; 28], [0u8; 48]);
+    let good = frame(1, 2, 1, &[], &mut one[1..]) == (HB_SMALL, 0)
+        && frame(1, 2, 1, &[0; 502], &mut one) == (HB_RANGE, 0)
+        && one == [0xEE; 8]
+        && frame(1, 2, 1, &[], &mut one) == (0, 8)
+        && one[..] == poll[..]
+        && frame(6, 1, 3, &ack[8..27], &mut two) == (0, 29)
+        && two[..] == ack[..]
+        && cut(&record[1..], 7, &params, &mut out) == (HB_NO_AREA, 0, 0)
+        && cut(&record, 475, &params, &mut out) == (HB_RANGE, 0, 0)
+        && cut(&record, 1, &[0; 257], &mut out) == (HB_SEGMENTS, 0, 0)
+        && cut(&record, 7, &params, &mut out[1..]) == (HB_SMALL, 0, 0)
+        && out == [0xEE; 28]
+        && cut(&record, 7, &params, &mut out) == (0, 28, 2)
+        && out[..] == npdus[..]
+        && frame(6, 1, 3, &out[..14], &mut frames[..24]) == (0, 24)
+        && frame(6, 1, 3, &out[14..], &mut frames[24..]) == (0, 24);
+    let (mut state, mut area, mut report) = ([0u8; HB_STATE], vec![0u8; HB_AREA], [0u8; HB_REPORT]);
+    let tape: Vec<u8> = frames.iter().flat_map(|x| [0, *x, 0, 0]).collect();
+    good && unsafe { hb_fresh(state.as_mut_ptr(), state.len(), 0) } == 0
+        && replay(&mut state, &mut area, &mut report, &tape) == (0, 24, 1)
+        && report[..] == of("04 00 06 01 03 3C 00 00 00 00 00 07 0C 00 00 00")[..]
+        && replay(&mut state, &mut area, &mut report, &tape[24 * HB_RECORD..]) == (0, 24, 1)
+        && report[..] == of("05 00 06 01 03 38 00 00 00 00 00 0E 0C 00 00 00")[..]
+        && area[..params.len()] == params[..]
+}
+
 fn main() {
     let npdu = "00 01 00 00 00 FF FF 00 00 00 00 00 00 00 00 00 00 00 00 00 00 00 00 00 00 FF 00 00 00";
     let good = trunk()
@@ -189,6 +261,7 @@ fn main() {
         && header(apdu_read, apdu_write, "02 03 00 0C 0C 00 00 00 01 19 55", 4, "00 00 00 01 00 00 03 00 00 00 0C 00 00")
         && editions()
         && items()
-        && params();
+        && params()
+        && written();
     std::process::exit(!good as i32);
 }

@@ -21,7 +21,8 @@
    that stands in the state area by the edition that the trunk has. The editions differ in those three bits and nowhere else.
 
    Stack. Measured, in octets: hb_replay 4,640; hb_feed 3,712; hb_service_read 3,504; hb_items_list 3,104; hb_item_step 3,024; hb_item_next 2,976;
-   hb_forget 1,294; hb_service_write 1,104; hb_data_check and hb_data_run 544; hb_fresh 530; every other call below 500 (docs/PERFORMANCE.md).
+   hb_forget 1,294; hb_service_write 1,104; hb_frame_write 624; hb_data_check and hb_data_run 544; hb_fresh 530; every other call below 500
+   (docs/PERFORMANCE.md).
 
    What each call promises is proved; its statement stands in crates/hitchbarley/src, with the definitions in specs. */
 #ifndef HITCHBARLEY_H
@@ -29,7 +30,7 @@
 #include <stddef.h>
 #include <stdint.h>
 
-#define HB_VERSION "1.6"
+#define HB_VERSION "1.7"
 #define HB_KIT "rattle-kit-5" /* the release that this version is proved and compiled with */
 
 #ifdef __cplusplus
@@ -78,9 +79,9 @@ enum {
 
     /* APDU header */
     HB_APDU_ENDS = 20, /* ends early */
-    HB_APDU_TYPE = 21, /* type 8 to 15; to write, above 7 */
+    HB_APDU_TYPE = 21, /* type 8 to 15; to write, above 7; to cut, another than 0 and 3 */
     HB_APDU_BITS = 22, /* zero bit set, or MOR without SEG; to write, a code of segments accepted above 7, by 1995 above 0 */
-    HB_APDU_SIZE = 23, /* size code above 5, or window not 1 to 127 */
+    HB_APDU_SIZE = 23, /* size code above 5, or window not 1 to 127 (to cut, such a window is 64) */
     HB_APDU_OVER = 24, /* octets left over */
 
     /* tag items */
@@ -119,6 +120,10 @@ enum {
     HB_NO_AREA = 60,   /* a state, report, message or record area of another size */
     HB_SMALL = 61,     /* output area smaller than the result; hb_items_list gives the count needed with it */
     HB_NO_READING = 62, /* records that are the reading of no octets */
+
+    /* frames written, messages cut */
+    HB_SEGMENTS = 63, /* more than 256 segments */
+    HB_RANGE = 64,    /* more than 501 data octets of a frame; parameter octets of a segment not 1 to 474; to cut, a window not 1 to 127 */
 
     /* recorded trunks */
     HB_BAD_RECORD = 67, /* kind above 2, third or fourth octet not 0, silence with a value */
@@ -251,6 +256,29 @@ uint8_t hb_service_read(uint8_t kind, uint8_t choice, const uint8_t *params, siz
    field too wide, else the number that reading the output gives, or 61; *wrote octets were written. What a service lacks, and the place and length of the
    value, are not looked at. */
 uint8_t hb_service_write(const uint8_t *fields, size_t fields_len, const uint8_t *value, size_t value_len, uint8_t *out, size_t out_len, size_t *wrote);
+
+/* ---- frames written, messages cut ---- */
+
+/* A frame of any type, destination and source around 0 to 501 data octets, with both its checks: 0, 64 for more data, or 61; *wrote octets were written, 8
+   without data, else 10 more than the data have. Neither destination and source nor the data are judged. */
+uint8_t hb_frame_write(uint8_t kind, uint8_t destination, uint8_t source, const uint8_t *payload, size_t payload_len, uint8_t *out, size_t out_len,
+    size_t *wrote);
+
+/* Cuts a confirmed request or a complex ack into segments, each behind a network header without addresses: 0, 60, 39, 64, 12, 21, 22, 23, 63 or 61, the first
+   of these that holds.
+     fields           an APDU header's record (60 where it has not 13 octets): type 0 or 3 (else 21), the window at its place (1 to 127, else 64), in a request
+                      a code of segments accepted by the edition (else 22) and a size code (above 5: 23). SEG, MOR and number, and what the kind of PDU
+                      lacks, are not looked at
+     reply, priority  of the network header: any number but 0 is reply expected; a priority above 3 is 12
+     each             parameter octets of a segment, 1 to 474 (else 64); the last segment has the rest
+     params           0 to 16,384 octets (else 39), which are not judged. Without any there is one segment
+   More than 256 segments are 63. The NPDUs stand end to end: *wrote octets, *segments of them, the k-th, from 0 on, at k * (head + each) with head 8 in a
+   request and 7 in a complex ack; all but the last have head + each octets. Their numbers are 0, 1, 2 .., and MOR is set in all but the last.
+   An area of 18,432 octets is never too short.
+   Frame each by hb_frame_write as type 5 or 6, all with one destination and one source. Fed in this order to a fresh state of the edition, without silences,
+   the last of them is reported as kind 5, with exactly these parameters in the message area, if their tags are good (else as kind 6). */
+uint8_t hb_cut(const uint8_t *fields, size_t fields_len, uint8_t later, uint8_t reply, uint8_t priority, size_t each, const uint8_t *params, size_t params_len,
+    uint8_t *out, size_t out_len, size_t *wrote, size_t *segments);
 
 #ifdef __cplusplus
 }

@@ -7,7 +7,7 @@
 //!     rustc -L target/staticlib -l static=hitchbarley
 #![allow(dead_code)]
 
-pub const HB_VERSION: &str = "1.6";
+pub const HB_VERSION: &str = "1.7";
 /// the release that this version is proved and compiled with
 pub const HB_KIT: &str = "rattle-kit-5";
 
@@ -59,11 +59,11 @@ pub const HB_NPDU_NETWORK: u8 = 14;
 // APDU header
 /// ends early
 pub const HB_APDU_ENDS: u8 = 20;
-/// type 8 to 15; to write, above 7
+/// type 8 to 15; to write, above 7; to cut, another than 0 and 3
 pub const HB_APDU_TYPE: u8 = 21;
 /// zero bit set, or MOR without SEG; to write, a code of segments accepted above 7, by 1995 above 0
 pub const HB_APDU_BITS: u8 = 22;
-/// size code above 5, or window not 1 to 127
+/// size code above 5, or window not 1 to 127 (to cut, such a window is 64)
 pub const HB_APDU_SIZE: u8 = 23;
 /// octets left over
 pub const HB_APDU_OVER: u8 = 24;
@@ -126,6 +126,12 @@ pub const HB_NO_AREA: u8 = 60;
 pub const HB_SMALL: u8 = 61;
 /// records that are the reading of no octets
 pub const HB_NO_READING: u8 = 62;
+
+// frames written, messages cut
+/// more than 256 segments
+pub const HB_SEGMENTS: u8 = 63;
+/// more than 501 data octets of a frame; parameter octets of a segment not 1 to 474; to cut, a window not 1 to 127
+pub const HB_RANGE: u8 = 64;
 
 // recorded trunks
 /// kind above 2, third or fourth octet not 0, silence with a value; the one refusal that changes something: the records before it are eaten and stand
@@ -190,5 +196,29 @@ unsafe extern "C" {
         out: *mut u8,
         out_len: usize,
         wrote: *mut usize,
+    ) -> u8;
+    pub fn hb_frame_write(
+        kind: u8,
+        destination: u8,
+        source: u8,
+        payload: *const u8,
+        payload_len: usize,
+        out: *mut u8,
+        out_len: usize,
+        wrote: *mut usize,
+    ) -> u8;
+    pub fn hb_cut(
+        fields: *const u8,
+        fields_len: usize,
+        later: u8,
+        reply: u8,
+        priority: u8,
+        each: usize,
+        params: *const u8,
+        params_len: usize,
+        out: *mut u8,
+        out_len: usize,
+        wrote: *mut usize,
+        segments: *mut usize,
     ) -> u8;
 }

@@ -11,14 +11,15 @@ mod print;
 mod receiver;
 mod text;
 mod trunk;
+mod writers;
 
 use trunk::Sizes;
 
-// The number of the line's name: 0 to 9 are asked.rt's, 10 to 14 checks.rt's, 15 to 25 trunk.rt's; above where it is none of these.
+// The number of the line's name: 0 to 9 are asked.rt's, 10 to 14 checks.rt's, 15 to 25 trunk.rt's, 26 and 27 writers.rt's; above where it is none of these.
 fn name(s: &[u8]) -> u8 {
     text::index(
         s,
-        b"npdu-read npdu-write apdu-read apdu-write items-list item-next item-step items-write service-write service-read header-check header-run data-check data-run receiver fresh state area silence forget feed frame show-state show-area area-at replay",
+        b"npdu-read npdu-write apdu-read apdu-write items-list item-next item-step items-write service-write service-read header-check header-run data-check data-run receiver fresh state area silence forget feed frame show-state show-area area-at replay frame-write cut",
     )
 }
 
@@ -34,6 +35,10 @@ fn answer(k: u8, s: &[u8], z: Sizes, state: &mut [u8; 700], area: &mut [u8; 6553
     }
     if k < 26 {
         return trunk::line(k, s, z, state, area);
+    }
+    if k < 28 {
+        writers::line(k, s);
+        return z;
     }
     show::text(b"  ?\n");
     z

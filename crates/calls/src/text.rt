@@ -100,6 +100,19 @@ pub fn third(s: &[u8]) -> usize {
     number(s, after(s, after(s, after(s, 0, b' '), b' '), b' '))
 }
 
+// The place of the fourth.
+fn fourth_at(s: &[u8]) -> usize {
+    after(s, after(s, after(s, after(s, 0, b' '), b' '), b' '), b' ')
+}
+
+pub fn fourth(s: &[u8]) -> usize {
+    number(s, fourth_at(s))
+}
+
+pub fn fifth(s: &[u8]) -> usize {
+    number(s, after(s, fourth_at(s), b' '))
+}
+
 // The second as the edition of a fresh state or of a header: 0 is 1995, and so is none.
 pub fn edition(s: &[u8]) -> u8 {
     (second(s) % 256) as u8

@@ -3,8 +3,8 @@ use crate::areas;
 use crate::print;
 use crate::text;
 use hitchbarley::replay_calls;
-use hitchbarley::sum_calls;
 use hitchbarley::trunk_calls;
+use hitchbarley::writer_calls;
 
 // How many octets of the two areas are lent.
 pub struct Sizes {
@@ -96,39 +96,22 @@ fn replayed(size: usize, records: &[u8], state: &mut [u8], area: &mut [u8]) {
     eaten_end(r, eaten, reported, show::part(&report, 0, size));
 }
 
-// A frame's front: preamble, header and its check.
-fn headed(kind: u8, destination: u8, source: u8, n: usize, out: &mut [u8]) {
-    let head = [
-        kind,
-        destination,
-        source,
-        (n / 256 % 256) as u8,
-        (n % 256) as u8,
-    ];
-    text::lay(out, 0, b"\x55\xFF");
-    text::lay(out, 2, &head);
-    text::put(out, 7, sum_calls::hb_header_check(&head));
-}
-
-// The data behind it and their check; where the frame ends.
-fn filled(payload: &[u8], out: &mut [u8]) -> usize {
-    if payload.len() == 0 {
-        return 8;
-    }
-    let sum = sum_calls::hb_data_check(payload);
-    let a = text::lay(out, 8, payload);
-    let b = text::put(out, a, (sum % 256) as u8);
-    text::put(out, b, (sum / 256) as u8)
-}
-
-// A frame with its checks; how many octets it has.
+// A frame with its checks, or nothing where its data are too many; how many octets it has.
 fn framed(s: &[u8], out: &mut [u8]) -> usize {
     let mut head = [0u8; 3];
     let mut payload = areas::input();
+    let mut wrote: usize = 0;
     text::group(s, &mut head);
     let n = text::group2(s, &mut payload);
-    headed(head[0], head[1], head[2], n, out);
-    filled(show::part(&payload, 0, n), out)
+    writer_calls::hb_frame_write(
+        head[0],
+        head[1],
+        head[2],
+        show::part(&payload, 0, n),
+        out,
+        &mut wrote,
+    );
+    wrote
 }
 
 // The octets of the line, or of the frame that it is.

@@ -1,9 +1,16 @@
 -- Each call's promise allows an answer, and no other.
 use Prim.Native.Nat.{ℕ}
-use mathlib.Core.Path.{_≡_, refl, sym, _∙_}
+use mathlib.Core.Path.{_≡_, refl, sym, ap, _∙_}
 use mathlib.Core.List.{List, []}
 use Rattle.octets.specs.Laid.{Laid, answerOf, areaOf, laid-one}
 use Rattle.octets.specs.declared.Written.{Written}
+use Rattle.apdu.specs.declared.Edition.{Edition}
+use Rattle.cutter.specs.Layout.{segmentsOf, octetsOf}
+use Rattle.cutter.specs.Fault.{faultOf}
+use Rattle.cutter.specs.Calls.{countIn, Cuts}
+use Rattle.cutter.specs.declared.Message.{Message}
+use Rattle.cutter.specs.declared.Way.{Way}
+use Rattle.cutter.specs.declared.Parted.{Parted}
 use Rattle.items.specs.Reading.{itemsOf}
 use Rattle.items.specs.Listing.{Listed, listedOf, listing, listed-one}
 use Rattle.items.specs.declared.Tally.{Tally}
@@ -50,6 +57,23 @@ listed s out =
       answer = (listedOf (length out) (itemsOf s), listing out (itemsOf s));
       allowed = record { answer = refl; after = refl };
       same = λ r r′ a b. let e = listed-one a b in λ i. (e .0 i, e .1 i);
+    }
+
+-- the cutter's: as a writer's, and the number of segments beside it
+cuts-one : {e : Edition} {m : Message} {w : Way} {params out later later′ : List ℕ} {r r′ : Parted} → Cuts e m w params out r later → Cuts e m w params out r′ later′
+    → (r .answer ≡ r′ .answer) × (r .segments ≡ r′ .segments) × (later ≡ later′)
+cuts-one {w = w} {params = params} a b =
+    let same = laid-one (a .laid) (b .laid) in
+    (same .0, a .segments ∙ ap (λ (x : Written). countIn x (segmentsOf (w .each) (length params))) (same .0) ∙ sym (b .segments), same .1)
+
+parted : (e : Edition) (m : Message) (w : Way) (params out : List ℕ) → One (Parted × List ℕ) (λ x. Cuts e m w params out (x .0) (x .1))
+parted e m w params out =
+    let f = faultOf e m w (length params) in
+    let o = octetsOf m w params in
+    record {
+      answer = (record { answer = answerOf f o out; segments = countIn (answerOf f o out) (segmentsOf (w .each) (length params)) }, areaOf f o out);
+      allowed = record { laid = record { answer = refl; after = refl }; segments = refl };
+      same = λ r r′ a b. let q = cuts-one a b in λ i. (record { answer = q .0 i; segments = q .1 i }, q .2 i);
     }
 
 -- the reader value's
@@ -121,10 +145,14 @@ one-answer =
       receiver-fresh = equal _ _;
       receiver-feed = λ m piece. equal _ _;
       receiver-silence = λ m. equal _ _;
+      frames-write = λ kind to from d out. laid _ _ out;
       npdu-read = λ s. equal _ _;
       npdu-write = λ h out. laid _ _ out;
       apdu-read = λ e s. equal _ _;
       apdu-write = λ e p out. laid _ _ out;
+      apdu-fault = λ e p. equal _ _;
+      cut = λ e m w params out. parted e m w params out;
+      cut-front = λ w n. equal _ _;
       items-list = λ s out. listed s out;
       items-item-at = λ s at. equal _ _;
       items-whole-at = λ s at. equal _ _;

@@ -10,7 +10,7 @@ use lib.ListN.{length, drop}
 use borrow.Author.Tests.{eq-eqb, eqb-true, eqb-false, ltb-true, ltb-false}
 use Rattle.octets.specs.Choice.{pick, both, pick-case, by-test, both-true, true-both, impossible, not-so}
 use Rattle.octets.specs.Reading.{Octets, oct}
-use Rattle.octets.specs.Laid.{Laid, answerOf}
+use Rattle.octets.specs.Laid.{writtenCount, Laid, answerOf}
 use Rattle.octets.specs.declared.Written.{Written}
 use Rattle.octets.specs.declared.Written.the-variants.{Wrote, Refused}
 use Rattle.npdu.specs.Address.{AddressFits}
@@ -50,7 +50,7 @@ use Rattle.state.specs.Layout.{stateSize, stateOctets, SlotsFit}
 use Rattle.state.specs.Calls.{stateGood, Loaded, loadOf, Loads}
 use Rattle.state.proofs.Exact.{loads-only, accepted}
 use Rattle.hitchbarley.specs.Trunk.{Left, barred, stateOf, bar, inside, feedBar, feedLeft, silenceBar, silenceLeft, forgotten, forgetLeft, Feeds, Stills, Forgets}
-use Rattle.hitchbarley.specs.Answers.{writtenNumber, writtenCount, Writes, Fills, FillsTo}
+use Rattle.hitchbarley.specs.Answers.{writtenNumber, Writes, Fills, FillsTo}
 use Rattle.hitchbarley.specs.Headers.{apduGood, apduNumber, apduOctets, apduParams, npduFault, apduFault}
 use Rattle.hitchbarley.specs.Items.{oneNumber, onePlace, stepGood, stepNumber, stepRecord, stepPlace}
 use Rattle.hitchbarley.specs.Services.{serviceGood, serviceNumber, serviceOctets, serviceFault}

@@ -42,3 +42,12 @@ pub mod Replay
 pub mod ReplayExported
 pub mod WriterRows
 pub mod ServicesWorked
+pub mod Rowed
+pub mod FrameWriting
+pub mod CutRows
+pub mod Cutting
+pub mod ExportedWriting
+pub mod CutOctets
+pub mod CutAndFed
+pub mod CutOverOctets
+pub mod CanBeCut

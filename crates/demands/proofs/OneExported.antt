@@ -7,7 +7,11 @@ use lib.Dec.{eqb}
 use lib.ListN.{length}
 use Rattle.octets.specs.Choice.{pick}
 use Rattle.octets.specs.Reading.{Octets}
-use Rattle.octets.specs.Laid.{answerOf, areaOf}
+use Rattle.octets.specs.Laid.{writtenCount, answerOf, areaOf}
+use Rattle.apdu.specs.declared.Edition.{Edition}
+use Rattle.cutter.specs.Layout.{segmentsOf, octetsOf}
+use Rattle.cutter.specs.Calls.{countIn}
+use Rattle.cutter.specs.declared.Way.{Way}
 use Rattle.items.specs.Reading.{itemsOf, oneAt, endOf}
 use Rattle.items.specs.Listing.{tallyNumber, tallyCount, listedOf, listing}
 use Rattle.collector.specs.Calls.{freshCollector}
@@ -15,8 +19,9 @@ use Rattle.state.specs.Edition.{editionOf}
 use Rattle.state.specs.Layout.{stateSize, stateOctets}
 use Rattle.state.specs.Calls.{Saves}
 use Rattle.hitchbarley.specs.Trunk as Trunk
-use Rattle.hitchbarley.specs.Answers.{writtenNumber, writtenCount, Writes, Fills, FillsTo}
+use Rattle.hitchbarley.specs.Answers.{writtenNumber, Writes, Fills, FillsTo}
 use Rattle.hitchbarley.specs.Items.{oneNumber, onePlace, Lists, Steps}
+use Rattle.hitchbarley.specs.Writers.{messageAt, cutFault, Cuts}
 use Rattle.hitchbarley.proofs.One.{writes-one, fills-one, fills-to-one, lists-one, steps-one, saves-one, feeds-one, stills-one, forgets-one, writes-some, fills-some, fills-to-some, lists-some, steps-some}
 use Rattle.hitchbarley.proofs.Kept.{saves-some, feeds-some, stills-some, forgets-some}
 use Rattle.demands.specs.Words.{One}
@@ -90,6 +95,21 @@ wrote f o area =
       same = λ r r′ a b. let e = writes-one a b in λ i. (e .0 i, e .1 i, e .2 i);
     }
 
+cut : (e : Edition) (fields : List ℕ) (w : Way) (params out : List ℕ) → One (ℕ × ℕ × ℕ × List ℕ) (λ x. Cuts e fields w params out (x .0) (x .1) (x .2) (x .3))
+cut e fields w params out =
+    let f = cutFault e fields w (length params) in
+    let o = octetsOf (messageAt fields) w params in
+    record {
+      answer = (
+        writtenNumber (answerOf f o out),
+        writtenCount (answerOf f o out),
+        countIn (answerOf f o out) (segmentsOf (w .each) (length params)),
+        areaOf f o out,
+      );
+      allowed = record { written = writes-some f o out; count = refl };
+      same = λ r r′ a b. let e = writes-one (a .written) (b .written) in let s = a .count ∙ sym (b .count) in λ i. (e .0 i, e .1 i, s i, e .2 i);
+    }
+
 -- ---- items
 listed : (s area : List ℕ) → One (ℕ × ℕ × List ℕ) (λ x. Lists s area (x .0) (x .1) (x .2))
 listed s area =
@@ -127,4 +147,6 @@ one-exported =
       hb-items-write = λ listed source out. wrote _ _ out;
       hb-service-read = λ kind choice params fields. filled _ _ _ _ fields;
       hb-service-write = λ fields value out. wrote _ _ out;
+      hb-frame-write = λ kind destination source payload out. wrote _ _ out;
+      hb-cut = λ fields later reply priority each params out. cut _ fields _ params out;
     }

@@ -13,6 +13,8 @@ use Rattle.frames.specs.Step.{freshOf, feedOf, silenceOf}
 use Rattle.frames.specs.declared.Receiver.{Receiver}
 use Rattle.frames.specs.declared.Fed.{Fed as ReceiverFed}
 use Rattle.frames.specs.declared.Fell.{Fell as ReceiverFell}
+use Rattle.frames.specs.Layout.{frameOctets}
+use Rattle.frame_writer.specs.Fault as FrameFault
 use Rattle.npdu.specs.Reading.{readNpdu}
 use Rattle.npdu.specs.Layout as Network
 use Rattle.npdu.specs.Fault as NetworkFault
@@ -24,6 +26,11 @@ use Rattle.apdu.specs.Fault as HeaderFault
 use Rattle.apdu.specs.declared.Edition.{Edition}
 use Rattle.apdu.specs.declared.Pdu.{Pdu}
 use Rattle.apdu.specs.declared.Answer as Apdu
+use Rattle.cutter.specs.Calls as Cutter
+use Rattle.cutter.specs.Fault.{frontFault}
+use Rattle.cutter.specs.declared.Message.{Message}
+use Rattle.cutter.specs.declared.Way.{Way}
+use Rattle.cutter.specs.declared.Parted.{Parted}
 use Rattle.items.specs.Grammar as Items
 use Rattle.items.specs.Reading.{itemAt, oneAt, endOf}
 use Rattle.items.specs.Records.{thingsOf}
@@ -62,6 +69,7 @@ use Rattle.hitchbarley.specs.Answers.{Writes, Fills, FillsTo}
 use Rattle.hitchbarley.specs.Headers.{apduGood, apduNumber, apduOctets, apduParams, npduFault, apduFault}
 use Rattle.hitchbarley.specs.Items.{Lists, Steps, stepGood, stepNumber, stepRecord, stepPlace}
 use Rattle.hitchbarley.specs.Services.{serviceGood, serviceNumber, serviceOctets, serviceFault}
+use Rattle.hitchbarley.specs.Writers.{wayAt, Cuts}
 use Rattle.sums.proofs.header_step.Reads as header-step-call
 use Rattle.sums.proofs.header_run.Reads as header-run-call
 use Rattle.sums.proofs.header_check.Reads as header-check-call
@@ -71,10 +79,14 @@ use Rattle.sums.proofs.data_check.Reads as data-check-call
 use Rattle.frames.proofs.Receiver.fresh.Reads as receiver-fresh-call
 use Rattle.frames.proofs.Receiver.feed.Reads as receiver-feed-call
 use Rattle.frames.proofs.Receiver.silence.Reads as receiver-silence-call
+use Rattle.frame_writer.proofs.write.Reads as frames-write-call
 use Rattle.npdu.proofs.read.Reads as npdu-read-call
 use Rattle.npdu.proofs.write.Reads as npdu-write-call
 use Rattle.apdu.proofs.read.Reads as apdu-read-call
 use Rattle.apdu_writer.proofs.write.Reads as apdu-write-call
+use Rattle.apdu_writer.proofs.fault.Reads as apdu-fault-call
+use Rattle.cutter.proofs.cut.Reads as cut-call
+use Rattle.cutter.proofs.front_fault.Reads as cut-front-call
 use Rattle.items.proofs.list.Reads as items-list-call
 use Rattle.items.proofs.item_at.Reads as items-item-at-call
 use Rattle.items.proofs.whole_at.Reads as items-whole-at-call
@@ -110,6 +122,8 @@ use Rattle.hitchbarley.proofs.item_calls.hb_item_step.Reads as hb-item-step-cal
 use Rattle.hitchbarley.proofs.item_calls.hb_items_write.Reads as hb-items-write-call
 use Rattle.hitchbarley.proofs.service_calls.hb_service_read.Reads as hb-service-read-call
 use Rattle.hitchbarley.proofs.service_calls.hb_service_write.Reads as hb-service-write-call
+use Rattle.hitchbarley.proofs.writer_calls.hb_frame_write.Reads as hb-frame-write-call
+use Rattle.hitchbarley.proofs.writer_calls.hb_cut.Reads as hb-cut-call
 
 -- the call asks nothing of its caller; all that it may answer and leave is what the page says, and all that the page says it may
 pub record Contract (Pre Post Page : Type 0) : Type 0 where
@@ -146,6 +160,9 @@ pub record Contracts : Type 0 where
   pub receiver-silence : (m : Receiver) (r : ReceiverFell)
       → Contract (receiver-silence-call.Pre tt (m, tt)) (receiver-silence-call.Post tt (m, tt) r (m, tt))
       (r ≡ silenceOf m)
+  pub frames-write : (κ1 κ2 : Lft) (kind to from : ℕ) (d out out′ : RefT (List ℕ)) (r : Written)
+      → Contract (frames-write-call.Pre (κ1, (κ2, tt)) (kind, (to, (from, (d, (out, tt)))))) (frames-write-call.Post (κ1, (κ2, tt)) (kind, (to, (from, (d, (out, tt))))) r (kind, (to, (from, (d, (out′, tt))))))
+      (Laid (FrameFault.faultOf (now d)) (frameOctets kind to from (now d)) (now out) r (now out′))
   pub npdu-read : (κ1 : Lft) (s : RefT (List ℕ)) (r : Reading)
       → Contract (npdu-read-call.Pre (κ1, tt) (s, tt)) (npdu-read-call.Post (κ1, tt) (s, tt) r (s, tt))
       (r ≡ readNpdu (now s))
@@ -158,6 +175,15 @@ pub record Contracts : Type 0 where
   pub apdu-write : (κ1 : Lft) (e : Edition) (p : Pdu) (out out′ : RefT (List ℕ)) (r : Written)
       → Contract (apdu-write-call.Pre (κ1, tt) (e, (p, (out, tt)))) (apdu-write-call.Post (κ1, tt) (e, (p, (out, tt))) r (e, (p, (out′, tt))))
       (Laid (HeaderFault.faultOf e p) (Header.header p) (now out) r (now out′))
+  pub apdu-fault : (e : Edition) (p : Pdu) (r : ℕ)
+      → Contract (apdu-fault-call.Pre tt (e, (p, tt))) (apdu-fault-call.Post tt (e, (p, tt)) r (e, (p, tt)))
+      (r ≡ HeaderFault.faultOf e p)
+  pub cut : (κ1 κ2 : Lft) (e : Edition) (m : Message) (w : Way) (params out out′ : RefT (List ℕ)) (r : Parted)
+      → Contract (cut-call.Pre (κ1, (κ2, tt)) (e, (m, (w, (params, (out, tt)))))) (cut-call.Post (κ1, (κ2, tt)) (e, (m, (w, (params, (out, tt))))) r (e, (m, (w, (params, (out′, tt))))))
+      (Cutter.Cuts e m w (now params) (now out) r (now out′))
+  pub cut-front : (w : Way) (n : ℕ) (r : ℕ)
+      → Contract (cut-front-call.Pre tt (w, (n, tt))) (cut-front-call.Post tt (w, (n, tt)) r (w, (n, tt)))
+      (r ≡ frontFault w n)
   pub items-list : (κ1 κ2 : Lft) (s out out′ : RefT (List ℕ)) (r : Tally)
       → Contract (items-list-call.Pre (κ1, (κ2, tt)) (s, (out, tt))) (items-list-call.Post (κ1, (κ2, tt)) (s, (out, tt)) r (s, (out′, tt)))
       (Listed (now s) (now out) r (now out′))
@@ -267,3 +293,9 @@ pub record ExportedContracts : Type 0 where
   pub hb-service-write : (κ1 κ2 κ3 κ4 : Lft) (fields value out out′ : RefT (List ℕ)) (wrote wrote′ : RefT ℕ) (r : ℕ)
       → Contract (hb-service-write-call.Pre (κ1, (κ2, (κ3, (κ4, tt)))) (fields, (value, (out, (wrote, tt))))) (hb-service-write-call.Post (κ1, (κ2, (κ3, (κ4, tt)))) (fields, (value, (out, (wrote, tt)))) r (fields, (value, (out′, (wrote′, tt)))))
       (Writes (serviceFault (now fields) (now value)) (ServiceWriter.octetsOf (serviceAt (now fields)) (now value)) (now out) r (now wrote′) (now out′))
+  pub hb-frame-write : (κ1 κ2 κ3 : Lft) (kind destination source : ℕ) (payload out out′ : RefT (List ℕ)) (wrote wrote′ : RefT ℕ) (r : ℕ)
+      → Contract (hb-frame-write-call.Pre (κ1, (κ2, (κ3, tt))) (kind, (destination, (source, (payload, (out, (wrote, tt))))))) (hb-frame-write-call.Post (κ1, (κ2, (κ3, tt))) (kind, (destination, (source, (payload, (out, (wrote, tt)))))) r (kind, (destination, (source, (payload, (out′, (wrote′, tt)))))))
+      (Writes (FrameFault.faultOf (now payload)) (frameOctets kind destination source (now payload)) (now out) r (now wrote′) (now out′))
+  pub hb-cut : (κ1 κ2 κ3 κ4 κ5 : Lft) (fields : RefT (List ℕ)) (later reply priority each : ℕ) (params out out′ : RefT (List ℕ)) (wrote wrote′ segments segments′ : RefT ℕ) (r : ℕ)
+      → Contract (hb-cut-call.Pre (κ1, (κ2, (κ3, (κ4, (κ5, tt))))) (fields, (later, (reply, (priority, (each, (params, (out, (wrote, (segments, tt)))))))))) (hb-cut-call.Post (κ1, (κ2, (κ3, (κ4, (κ5, tt))))) (fields, (later, (reply, (priority, (each, (params, (out, (wrote, (segments, tt))))))))) r (fields, (later, (reply, (priority, (each, (params, (out′, (wrote′, (segments′, tt))))))))))
+      (Cuts (editionOf later) (now fields) (wayAt (now fields) reply priority each) (now params) (now out) r (now wrote′) (now segments′) (now out′))

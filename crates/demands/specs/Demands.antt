@@ -25,6 +25,8 @@ use Rattle.trunk.specs.Reading.{Out, heldOf, came, readFrom}
 use Rattle.trunk.specs.Reading.Out.{good}
 use Rattle.trunk.specs.Spans.{Bytes, OutcomeAt}
 use Rattle.trunk.specs.Demand.{Sound, reading, hurtBy}
+use Rattle.frames.specs.Layout.{frameOctets}
+use Rattle.frame_writer.specs.Fault as FrameFault
 use Rattle.npdu.specs.declared.Npdu.{Npdu}
 use Rattle.npdu.specs.declared.Reading.{Reading}
 use Rattle.npdu.specs.Reading.{readNpdu, refusedBy}
@@ -41,6 +43,11 @@ use Rattle.apdu.specs.Layout as Header
 use Rattle.apdu.specs.Valid as HeaderRules
 use Rattle.apdu.specs.Fault as HeaderFault
 use Rattle.apdu.specs.Reading as HeaderRead
+use Rattle.cutter.specs.Calls as Cutter
+use Rattle.cutter.specs.Fault.{frontFault}
+use Rattle.cutter.specs.declared.Message.{Message}
+use Rattle.cutter.specs.declared.Way.{Way}
+use Rattle.cutter.specs.declared.Parted.{Parted}
 use Rattle.tags.specs.Types.{longest}
 use Rattle.tags.specs.Reading.{headAt}
 use Rattle.tags.specs.Layout as Tags
@@ -109,10 +116,14 @@ pub record OneAnswer : Type 0 where
   pub receiver-fresh : One Receiver (λ r. r ≡ freshOf)
   pub receiver-feed : (m : Receiver) (piece : List ℕ) → One ReceiverFed (λ r. r ≡ feedOf m piece)
   pub receiver-silence : (m : Receiver) → One ReceiverFell (λ r. r ≡ silenceOf m)
+  pub frames-write : (kind to from : ℕ) (d out : List ℕ) → One (Written × List ℕ) (λ x. Laid (FrameFault.faultOf d) (frameOctets kind to from d) out (x .0) (x .1))
   pub npdu-read : (s : List ℕ) → One Reading (λ r. r ≡ readNpdu s)
   pub npdu-write : (h : Npdu) (out : List ℕ) → One (Written × List ℕ) (λ x. Laid (NetworkFault.faultOf h) (Network.encode h) out (x .0) (x .1))
   pub apdu-read : (e : Edition) (s : List ℕ) → One Apdu.Answer (λ r. r ≡ readApdu e s)
   pub apdu-write : (e : Edition) (p : Pdu) (out : List ℕ) → One (Written × List ℕ) (λ x. Laid (HeaderFault.faultOf e p) (Header.header p) out (x .0) (x .1))
+  pub apdu-fault : (e : Edition) (p : Pdu) → One ℕ (λ r. r ≡ HeaderFault.faultOf e p)
+  pub cut : (e : Edition) (m : Message) (w : Way) (params out : List ℕ) → One (Parted × List ℕ) (λ x. Cutter.Cuts e m w params out (x .0) (x .1))
+  pub cut-front : (w : Way) (n : ℕ) → One ℕ (λ r. r ≡ frontFault w n)
   pub items-list : (s out : List ℕ) → One (Tally × List ℕ) (λ x. Listed s out (x .0) (x .1))
   pub items-item-at : (s : List ℕ) (at : ℕ) → One OneItem (λ r. r ≡ endOf (oneAt s at))
   pub items-whole-at : (s : List ℕ) (at : ℕ) → One OneItem (λ r. r ≡ endOf (itemAt s at))

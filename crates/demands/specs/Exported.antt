@@ -10,6 +10,8 @@ use lib.ListN.{length, take, drop}
 use Rattle.octets.specs.Choice.{pick}
 use Rattle.octets.specs.Reading.{Octets, oct}
 use Rattle.sums.specs.Sums.{headerRun, headerCheck, dataRun, dataSent}
+use Rattle.frames.specs.Layout.{frameOctets}
+use Rattle.frame_writer.specs.Fault as FrameFault
 use Rattle.npdu.specs.Reading.{readNpdu}
 use Rattle.npdu.specs.Layout as Network
 use Rattle.npdu.specs.Fault as NetworkFault
@@ -55,6 +57,7 @@ use Rattle.hitchbarley.specs.Answers.{Writes, Fills, FillsTo}
 use Rattle.hitchbarley.specs.Headers.{apduGood, apduNumber, apduOctets, apduParams, npduFault, apduFault}
 use Rattle.hitchbarley.specs.Items.{Lists, Steps, stepGood, stepNumber, stepRecord, stepPlace}
 use Rattle.hitchbarley.specs.Services.{serviceGood, serviceNumber, serviceOctets, serviceFault}
+use Rattle.hitchbarley.specs.Writers.{wayAt, Cuts}
 use Rattle.demands.specs.Words.{One, SixtyThenFiftyNine, Broken, ListNumbered, AcceptedBack, WholeBack}
 
 -- ---- the calls of one trunk, over a state area
@@ -251,3 +254,7 @@ pub record OneExported : Type 0 where
       One (ℕ × List ℕ) (λ x. Fills serviceSize (serviceGood a) (serviceNumber a) (serviceOctets a) fields (x .0) (x .1)))
   pub hb-service-write : (fields value out : List ℕ)
       → One (ℕ × ℕ × List ℕ) (λ x. Writes (serviceFault fields value) (ServiceWriter.octetsOf (serviceAt fields) value) out (x .0) (x .1) (x .2))
+  pub hb-frame-write : (kind destination source : ℕ) (payload out : List ℕ)
+      → One (ℕ × ℕ × List ℕ) (λ x. Writes (FrameFault.faultOf payload) (frameOctets kind destination source payload) out (x .0) (x .1) (x .2))
+  pub hb-cut : (fields : List ℕ) (later reply priority each : ℕ) (params out : List ℕ)
+      → One (ℕ × ℕ × ℕ × List ℕ) (λ x. Cuts (editionOf later) fields (wayAt fields reply priority each) params out (x .0) (x .1) (x .2) (x .3))

@@ -24,3 +24,7 @@ pub mod Replay
 pub mod ReplayExported
 pub mod WriterRows
 pub mod ServicesWorked
+pub mod FrameWriting
+pub mod Cutting
+pub mod ExportedWriting
+pub mod CutAndFed

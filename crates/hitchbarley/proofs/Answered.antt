@@ -5,9 +5,9 @@ use mathlib.Core.Bool.{Bool, true, false}
 use mathlib.Core.List.{List}
 use lib.ListN.{length}
 use borrow.Author.Tests.{ne-eqb, eq-eqb}
-use Rattle.octets.specs.Laid.{Laid, laid-fault, laid-as}
+use Rattle.octets.specs.Laid.{writtenCount, Laid, laid-fault, laid-as}
 use Rattle.octets.specs.declared.Written.{Written}
-use Rattle.hitchbarley.specs.Answers.{writtenNumber, writtenCount, Writes, Fills, FillsTo}
+use Rattle.hitchbarley.specs.Answers.{writtenNumber, Writes, Fills, FillsTo}
 
 -- ---- writers
 pub writes : {f : ℕ} {o area later : List ℕ} {w : Written} {r wrote : ℕ} → Laid f o area w later → (r ≡ writtenNumber w) × (wrote ≡ writtenCount w) → Writes f o area r wrote later

@@ -7,7 +7,7 @@ use lib.Dec.{eqb}
 use lib.ListN.{length}
 use borrow.Author.Tests.{ne-eqb, eq-eqb, le-leb, lt-leb}
 use Rattle.octets.specs.Reading.{oct}
-use Rattle.octets.specs.Laid.{Laid}
+use Rattle.octets.specs.Laid.{writtenCount, Laid}
 use Rattle.octets.specs.declared.Written.{Written}
 use Rattle.npdu.specs.Reading.{readNpdu}
 use Rattle.npdu.specs.Fault as Npdu
@@ -25,7 +25,7 @@ use Rattle.apdu.specs.declared.Answer.the-variants.{Good, Refused}
 use Rattle.records.specs.Network.{npduRecord, npduAt}
 use Rattle.records.specs.Application.{apduRecord, apduAt}
 use Rattle.state.specs.Edition.{editionOf}
-use Rattle.hitchbarley.specs.Answers.{writtenNumber, writtenCount, Writes, FillsTo}
+use Rattle.hitchbarley.specs.Answers.{writtenNumber, Writes, FillsTo}
 use Rattle.hitchbarley.specs.Headers.{apduGood, apduNumber, apduOctets, apduParams, npduFault, apduFault}
 use Rattle.hitchbarley.proofs.Answered.{writes-not, writes-value, fills-to-not, fills-to-good}
 

@@ -6,6 +6,7 @@ pub mod Answered
 pub mod Headers
 pub mod Items
 pub mod Services
+pub mod Writers
 pub mod Trips
 pub mod One
 pub mod Sizes

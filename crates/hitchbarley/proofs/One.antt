@@ -6,12 +6,12 @@ use mathlib.Core.List.{List}
 use lib.Dec.{eqb}
 use lib.ListN.{length}
 use Rattle.octets.specs.Choice.{pick}
-use Rattle.octets.specs.Laid.{answerOf, areaOf}
+use Rattle.octets.specs.Laid.{writtenCount, answerOf, areaOf}
 use Rattle.items.specs.Reading.{itemsOf, oneAt, endOf}
 use Rattle.items.specs.Listing.{tallyNumber, tallyCount, listedOf, listing}
 use Rattle.collector.specs.declared.Collector.{Collector}
 use Rattle.state.specs.Calls.{Saves}
-use Rattle.hitchbarley.specs.Answers.{writtenNumber, writtenCount, Writes, Fills, FillsTo}
+use Rattle.hitchbarley.specs.Answers.{writtenNumber, Writes, Fills, FillsTo}
 use Rattle.hitchbarley.specs.Items.{oneNumber, onePlace, Lists, Steps}
 use Rattle.hitchbarley.specs.Trunk.{Feeds, Stills, Forgets}
 

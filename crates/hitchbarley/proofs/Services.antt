@@ -6,7 +6,7 @@ use mathlib.Core.List.{List}
 use lib.ListN.{length}
 use borrow.Author.Tests.{ne-eqb, eq-eqb, le-leb, lt-leb}
 use Rattle.octets.specs.Reading.{oct}
-use Rattle.octets.specs.Laid.{Laid}
+use Rattle.octets.specs.Laid.{writtenCount, Laid}
 use Rattle.octets.specs.declared.Written.{Written}
 use Rattle.services.specs.Reading.{readService}
 use Rattle.services.specs.declared.Answer.{Answer}
@@ -15,7 +15,7 @@ use Rattle.services.specs.declared.Service.{Service}
 use Rattle.service_writer.specs.Layout.{octetsOf}
 use Rattle.service_writer.specs.Fault.{faultOf}
 use Rattle.records.specs.Service.{serviceRecord, serviceAt}
-use Rattle.hitchbarley.specs.Answers.{writtenNumber, writtenCount, Writes, Fills}
+use Rattle.hitchbarley.specs.Answers.{writtenNumber, Writes, Fills}
 use Rattle.hitchbarley.specs.Services.{serviceGood, serviceNumber, serviceOctets, serviceFault}
 use Rattle.hitchbarley.proofs.Answered.{writes-not, writes-value, fills-not, fills-good}
 

@@ -6,18 +6,14 @@ use mathlib.Core.List.{List}
 use lib.Dec.{eqb}
 use lib.ListN.{length}
 use Rattle.octets.specs.Choice.{pick}
-use Rattle.octets.specs.Laid.{answerOf, areaOf}
+use Rattle.octets.specs.Laid.{writtenCount, answerOf, areaOf}
 use Rattle.octets.specs.declared.Written.{Written}
 use Rattle.octets.specs.declared.Written.the-variants.{Wrote, Refused}
 
--- a writer's answer: its number, and the octets written
+-- a writer's answer: its number (the octets written: octets/Laid)
 abbrev pub writtenNumber : Written → ℕ
 writtenNumber (Wrote n) = 0
 writtenNumber (Refused x) = x
-
-abbrev pub writtenCount : Written → ℕ
-writtenCount (Wrote n) = n
-writtenCount (Refused x) = 0
 
 -- what a writer promises: f is the refusal that the values deserve, 0 for none; o the octets of the result
 pub record Writes (f : ℕ) (o area : List ℕ) (r wrote : ℕ) (later : List ℕ) : Type 0 where

@@ -2,6 +2,7 @@ pub mod Answers
 pub mod Headers
 pub mod Items
 pub mod Services
+pub mod Writers
 pub mod Trunk
 pub mod Replay
 pub mod Offering

@@ -3,7 +3,8 @@ use items::Tally;
 use octets::Written;
 ghost use mathlib.Core.Path.{_≡_};
 ghost use Rattle.items.specs.Listing.{tallyNumber, tallyCount};
-ghost use Rattle.hitchbarley.specs.Answers.{writtenNumber, writtenCount};
+ghost use Rattle.octets.specs.Laid.{writtenCount};
+ghost use Rattle.hitchbarley.specs.Answers.{writtenNumber};
 
 // A writer's.
 pub fn written(w: Written, wrote: &mut usize) -> u8

@@ -6,3 +6,4 @@ pub mod replay_calls;
 pub mod service_calls;
 pub mod sum_calls;
 pub mod trunk_calls;
+pub mod writer_calls;

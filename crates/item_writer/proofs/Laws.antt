@@ -8,7 +8,7 @@ use lib.ListN.{length, length-append}
 use lib.Dec.{leb, eqb}
 use borrow.Author.Tests.{eqb-true, eqb-false, ne-eqb, leb-true}
 use Rattle.octets.specs.Choice.{pick, pick-so, pick-not, both-true, impossible}
-use Rattle.octets.specs.Splice.{splice, splice-nil, splice-length, splice-join, splice-then}
+use Rattle.octets.specs.Splice.{splice, splice-nil, splice-length, splice-join, splice-then, Put}
 use Rattle.tags.specs.Layout.{Thing, numberOctets, lengthOctets}
 use Rattle.tags.specs.Layout.Thing.{application, boolean, context, opening, closing}
 use Rattle.items.specs.Records.{Rec, recordAt, recordsAt, thingOf, thingsOf}
@@ -23,7 +23,7 @@ use Rattle.item_judge.proofs.Good.{Good, good-more, good-len, good-named}
 use Rattle.item_judge.proofs.ByKind.{inside-len, len-inside}
 use Rattle.item_judge.proofs.Lay.{lay-thing, good-short}
 use Rattle.item_judge.proofs.Walk.{records-next}
-use Rattle.item_writer.specs.Writing.{Ready, Put}
+use Rattle.item_writer.specs.Writing.{Ready}
 
 -- three octets, one after the other
 pub put-three : (o₀ o₁ o₂ o₃ : List ℕ) (at a b c : ℕ) → at + 3 ≤ length o₀ → o₁ ≡ splice o₀ at (a ∷ []) → o₂ ≡ splice o₁ (at + 1) (b ∷ []) → o₃ ≡ splice o₂ (at + 2) (c ∷ [])

@@ -4,7 +4,6 @@ use mathlib.Core.Path.{_≡_}
 use mathlib.Core.List.{List}
 use mathlib.Core.Bool.{true}
 use lib.ListN.{length}
-use Rattle.octets.specs.Splice.{splice}
 use Rattle.tags.specs.Types.{longest}
 use Rattle.items.specs.Records.{Rec}
 use Rattle.item_judge.specs.Kinds.{insideTest}
@@ -15,8 +14,3 @@ pub record Ready (source : List ℕ) (r : Rec) (at : ℕ) (out : List ℕ) : Typ
   pub short : r .len ≤ longest
   pub inside : insideTest (length source) (r .place) (r .len) ≡ true
   pub room : at + length (layout source r) ≤ length out
-
--- octets were laid at a place, and this is the place after them
-pub record Put (out : List ℕ) (at : ℕ) (o : List ℕ) (next : ℕ) (later : List ℕ) : Type 0 where
-  pub area : later ≡ splice out at o
-  pub after : next ≡ at + length o

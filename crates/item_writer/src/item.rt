@@ -5,11 +5,11 @@ ghost use mathlib.Core.List.{[], _∷_};
 ghost use mathlib.Core.Bool.{true};
 ghost use Prim.Native.Nat.{_+_, _/_, _%_, _≤_};
 ghost use lib.ListN.{length, take, drop};
-ghost use Rattle.octets.specs.Splice.{splice};
+ghost use Rattle.octets.specs.Splice.{splice, Put};
 ghost use Rattle.tags.specs.Layout.{highBits, lowBits, numberOctets, lengthOctets};
 ghost use Rattle.item_judge.specs.Kinds.{recOf, insideTest};
 ghost use Rattle.item_judge.specs.OneLayout.{lowPart, tagOctet, layout};
-ghost use Rattle.item_writer.specs.Writing.{Ready, Put};
+ghost use Rattle.item_writer.specs.Writing.{Ready};
 
 // The number in the tag octet.
 fn high_bits(n: u8) -> u8

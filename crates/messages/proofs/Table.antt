@@ -23,14 +23,14 @@ use Rattle.messages.proofs.Keyed.{slot-some, slot-none}
 use Rattle.messages.proofs.Rows.{new-51, new-start, open-restart, open-52, open-53, open-on}
 
 -- ---- a table gives one number or none
-first-one : (t : Table) (m n : ℕ) → First t m → First t n → m ≡ n
+pub first-one : (t : Table) (m n : ℕ) → First t m → First t n → m ≡ n
 first-one end m n f h = absurd f
 first-one (row k P t) m n (inl x) (inl y) = x .1 ∙ sym (y .1)
 first-one (row k P t) m n (inl x) (inr y) = absurd (y .0 (x .0))
 first-one (row k P t) m n (inr x) (inl y) = absurd (x .0 (y .0))
 first-one (row k P t) m n (inr x) (inr y) = first-one t m n (x .1) (y .1)
 
-first-none : (t : Table) (n : ℕ) → First t n → NoRow t → ⊥
+pub first-none : (t : Table) (n : ℕ) → First t n → NoRow t → ⊥
 first-none end n f h = f
 first-none (row k P t) n (inl x) h = h .0 (x .0)
 first-none (row k P t) n (inr x) h = first-none t n (x .1) (h .1)

@@ -4,7 +4,7 @@ use mathlib.Core.Bool.{Bool, true, false}
 use mathlib.Core.Logic.{⊎-elim}
 use mathlib.Core.List.{List, [], _∷_, _++_, append-assoc}
 use mathlib.Core.Option.{none, some}
-use Prim.Native.Nat.{ℕ, zero, suc, _+_, _<_, _≤_}
+use Prim.Native.Nat.{ℕ, zero, suc, _+_, _≤_}
 use native.Mathlib.Omega.{arith}
 use lib.Dec.{eqb, ltb}
 use lib.ListN.{length, getD, take, drop, length-append, take-append-drop, drop-of-length-le}
@@ -21,6 +21,7 @@ use Rattle.runs.specs.Run.Trace.{told}
 use Rattle.frames.specs.declared.Receiver.{Receiver}
 use Rattle.frames.specs.Layout.{headOf, dataPart, frameOctets}
 use Rattle.frames.specs.Step.{most, lengthOf}
+use Rattle.frames.proofs.Parts.{some-data}
 use Rattle.trunk.specs.Reading.{Out, Kept, withHead, withData, Found, ends55, Span, push, span, Read}
 use Rattle.trunk.specs.Reading.{afterData, judged, afterHeader, afterFound, readN, came}
 use Rattle.trunk.specs.Reading.Out.{good, damage}
@@ -55,10 +56,6 @@ span-view (suc n) p (silence ∷ es) = breaks {q = p} [] es refl (omega arith) (
 span-view (suc n) p (octet x ∷ es) = pushed n p x es (span-view n (p + 1) es)
 
 -- ---- whole spans out of octets
-some-data : (d : List ℕ) → 0 < length d → dataPart d ≡ d ++ dataCheck d
-some-data [] l = absurd (omega arith)
-some-data (x ∷ d) l = refl
-
 frame-whole : (h d : List ℕ) → length h ≡ 5 → Octets h → lengthOf h ≡ length d → length d ≤ most → Whole (came (headed h (dataPart d))) (good h d)
 unfolding frameOctets
 frame-whole h d lh os e fits =
@@ -102,7 +99,7 @@ module _ (h xs : List ℕ) (o : Opens h) (l : length xs ≡ lengthOf h + 1 + 1) 
       let check : first ∷ second ∷ [] ≡ dataCheck body =
       data-only body body-octets first second (ox (lengthOf h)) (ox (suc (lengthOf h))) (ap (dataRun dataStart) (sym parts) ∙ e) in
       let n : length body ≡ lengthOf h = body-length in
-      let whole : xs ≡ dataPart body = parts ∙ ap (λ (b : List ℕ). body ++ b) check ∙ sym (some-data body (omega (arith, o .some))) in
+      let whole : xs ≡ dataPart body = parts ∙ ap (λ (b : List ℕ). body ++ b) check ∙ sym (some-data body (λ z. omega (arith, z, o .some))) in
       subst (λ (b : List ℕ). Whole (came (headed h b)) (good h body)) (sym whole) (frame-whole h body (o .five) oh (sym n) (omega (arith, o .fits)))
 
   wrong-data : (dataRun dataStart xs ≡ dataLeft → ⊥) → Whole (came (headed h xs)) (damage 3)

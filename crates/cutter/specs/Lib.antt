@@ -1,0 +1,4 @@
+pub mod Layout
+pub mod Fault
+pub mod Calls
+pub mod Laying

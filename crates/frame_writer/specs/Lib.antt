@@ -1,0 +1,3 @@
+pub mod Fault
+pub mod Front
+pub mod Calls

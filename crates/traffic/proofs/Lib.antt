@@ -1,0 +1,5 @@
+pub mod Frames
+pub mod Content
+pub mod Joining
+pub mod Fed
+pub mod Places
