@@ -1,4 +1,6 @@
 // APDU headers (clause 20.1): the eight kinds of PDU, and their reading.
+#![tactic(auto)]
+
 ghost use Rattle.std.specs.Prelude.{◌≡◌};
 ghost use Rattle.apdu.specs.Editions.{most};
 ghost use Rattle.apdu.specs.Reading.{read_apdu};

@@ -1,4 +1,6 @@
 // APDU headers (clause 20.1), written into a lent area. The caller lays the parameters after the header.
+#![tactic(auto)]
+
 ghost use Rattle.std.specs.Prelude.{◌≡◌};
 ghost use Rattle.apdu.specs.Fault.{fault_of};
 ghost use Rattle.apdu_writer.specs.Calls.{Writes};

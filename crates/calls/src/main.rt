@@ -4,6 +4,8 @@
 //
 // Octets are hexadecimal, XX*N is N times one; an area that is lent for output is full of EE. A line that is empty or begins with # is a heading,
 // and every line ends in a line feed.
+#![tactic(auto)]
+
 mod areas;
 mod asked;
 mod checks;

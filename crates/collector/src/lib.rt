@@ -1,4 +1,6 @@
 // The whole box: edition, receiver and four slots by value; feed, silence, forget; reports of 16 octets.
+#![tactic(auto)]
+
 pub mod frame;
 pub mod heard;
 pub mod lent;

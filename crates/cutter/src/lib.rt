@@ -1,4 +1,6 @@
 // Messages cut into segments, each behind a network header without addresses.
+#![tactic(auto)]
+
 ghost use Rattle.std.specs.Prelude.{◌≡◌};
 ghost use Rattle.cutter.specs.Fault.{front_fault};
 ghost use Rattle.cutter.specs.Calls.{Cuts};

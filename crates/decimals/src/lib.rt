@@ -1,4 +1,6 @@
 // Reals and doubles as decimal text: the shortest decimal that reads back as the same number.
+#![tactic(auto)]
+
 mod digits;
 mod limbs;
 mod narrow;

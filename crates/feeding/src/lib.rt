@@ -1,5 +1,7 @@
 // The receiver over its octets where they stand: it eats a piece through the first octet that causes a report, else all of it.
 // The stages follow one another: a state in an earlier one goes on to the next within the piece, and only a report leads back.
+#![tactic(auto)]
+
 ghost use Rattle.std.specs.Prelude.{◌≡◌, [], ◌∷◌, ◌+◌, ◌/◌, ◌%◌, ◌<◌, ◌≤◌, ltb, length};
 ghost use Rattle.octets.specs.Choice.{pick};
 ghost use Rattle.octets.specs.Splice.{splice};

@@ -1,4 +1,6 @@
 // Frames written whole into a lent area: preamble, header with its check, data with theirs.
+#![tactic(auto)]
+
 ghost use Rattle.std.specs.Prelude.{◌≡◌, ◌++◌, ◌+◌, ◌≤◌, length};
 ghost use Rattle.octets.specs.Splice.{splice};
 ghost use Rattle.sums.specs.Sums.{data_check};

@@ -1,4 +1,6 @@
 // Hitchbarley for C and Rust programs: every call over numbers and lent octets, with the promises of the calls below.
+#![tactic(auto)]
+
 mod answers;
 pub mod header_calls;
 pub mod item_calls;

@@ -1,4 +1,6 @@
 // Records of items to write: whether they are the reading of some octets, and how many octets these are.
+#![tactic(auto)]
+
 mod contents;
 mod kinds;
 mod nesting;

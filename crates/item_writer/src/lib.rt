@@ -1,4 +1,6 @@
 // Writing items: records and a contents source give the octets that read as them.
+#![tactic(auto)]
+
 mod item;
 
 ghost use Rattle.std.specs.Prelude.{◌≡◌, [], true, ◌≤◌, length};

@@ -1,4 +1,6 @@
 // Tag items: listed, and read one by one.
+#![tactic(auto)]
+
 mod cycle;
 mod records;
 

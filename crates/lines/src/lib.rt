@@ -1,5 +1,7 @@
 // A report as a line in words, and as rows of a table. The frame's octets are those of the frame store, the parameters of a message that was
 // rebuilt those of the message area: both as the call that reported left them. `records` is an area for the records of a value's items.
+#![tactic(auto)]
+
 mod heading;
 mod heard;
 mod message;

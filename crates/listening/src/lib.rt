@@ -1,5 +1,7 @@
 // Listens: reads trunk octets from a file or standard input, as a capture or a serial port hands them over, and prints a line for each report,
 // or with --csv a row for each value. Raw octets carry no silences, so the end of the input is the only one that is heard.
+#![tactic(auto)]
+
 mod closing;
 mod ear;
 pub mod output;

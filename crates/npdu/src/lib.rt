@@ -1,4 +1,6 @@
 // The network header (clause 6.2), read and written.
+#![tactic(auto)]
+
 pub mod addresses; // addresses.rt: a header's source and destination as values
 mod fault;
 mod head;

@@ -1,4 +1,6 @@
 // Replaying recorded trunks: records of four octets, each by the collector's own call, reported as feeding is.
+#![tactic(auto)]
+
 pub mod lent;
 mod orders;
 

@@ -1,4 +1,6 @@
 // The reader value: for plant tools that go through a message's parameters item by item.
+#![tactic(auto)]
+
 ghost use Rattle.std.specs.Prelude.{◌≡◌};
 ghost use Rattle.reader.specs.Reading.{step_of};
 

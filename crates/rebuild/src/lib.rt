@@ -1,4 +1,6 @@
 // Rebuilding: four slots by value, and the message area that a caller lends.
+#![tactic(auto)]
+
 mod rows;
 pub mod search;
 

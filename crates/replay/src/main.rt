@@ -1,4 +1,6 @@
 // Replays a recorded trunk: a file of records of four octets, and a line for each report, behind the number of the record that caused it.
+#![tactic(auto)]
+
 mod player;
 mod tape;
 

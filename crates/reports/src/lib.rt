@@ -1,4 +1,6 @@
 // The report: one record of 16 octets; its seven kinds by name, and its writer.
+#![tactic(auto)]
+
 ghost use Rattle.std.specs.Prelude.{◌≡◌, length};
 ghost use Rattle.reports.specs.Layout.{report_size, report_octets};
 ghost use Rattle.reports.specs.Kinds.{other_frame, damaged, unsegmented, segment_taken, complete, refusal, network_message};

@@ -1,4 +1,6 @@
 // The six services, written into a lent area.
+#![tactic(auto)]
+
 mod judge;
 mod layouts;
 

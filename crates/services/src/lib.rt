@@ -1,4 +1,6 @@
 // The six services, read and written (clause 21).
+#![tactic(auto)]
+
 mod others;
 mod parts;
 mod property;

@@ -1,4 +1,6 @@
 // What the programs print: text, numbers and octets on standard output; and parts of octets.
+#![tactic(auto)]
+
 ghost use Rattle.std.specs.Prelude.{◌≤◌};
 
 use libc::STDOUT_FILENO;

@@ -1,4 +1,6 @@
 // A state as octets of a lent area: its edition, link and slots lifted from there, link and slots laid back, its frame store left in place; a whole state saved there.
+#![tactic(auto)]
+
 mod judging;
 mod loading;
 mod saving;

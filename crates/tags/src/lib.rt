@@ -1,4 +1,6 @@
 // One tag item at a place: its number, class and length in their forms, and its contents judged.
+#![tactic(auto)]
+
 pub mod contents;
 mod fields;
 mod kinds;

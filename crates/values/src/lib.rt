@@ -1,5 +1,7 @@
 // Decoded values: the services' parameters in words, from `services::read` and the records of `items::list`.
 // Text goes into a lent area from a place on; what is too long for the area is cut, and the line says how many octets are left.
+#![tactic(auto)]
+
 mod carried;
 mod contents;
 mod item;

@@ -1,5 +1,7 @@
 // Words on a line: text, numbers, and the standard's names for numbers, put into a lent area.
 // Each call takes the area and a place, writes from there as far as the area goes, and answers the place after what it wrote.
+#![tactic(auto)]
+
 mod index;
 mod names;
 mod template;

@@ -1,0 +1,19 @@
+use Rattle.std.proofs.Common.{◌≡◌, refl, length, ◌∙◌, arith, length-set}
+use Rattle.std.proofs.Math.Seq.{take-length}
+use Rattle.octets.specs.Splice.{copy_none, copy_more}
+use Rattle.octets.proofs.copy.Goals as goal
+
+pub loop-i-init : goal.loop-i-init
+loop-i-init c = (omega arith, refl, copy_none _ _ c.args.src.now)
+
+pub loop-i-preserved : goal.loop-i-preserved
+loop-i-preserved c =
+    let a = c.args in
+    let l = c.loop-i in
+    (omega arith, simp length-set (omega arith), copy_more a.dst.now _ a.src.now a.at l.i (omega arith) (omega arith) l.invariant.2)
+
+pub returns : goal.returns
+returns c =
+    let s = c.args.src.now in
+    let e : c.loop-i.i ≡ length s = omega arith in
+    c.loop-i.invariant.2 ∙ rw (e, take-length s)
