@@ -14,8 +14,7 @@ use crate::answers;
 use apdu::Answer;
 
 // The network header at the front of these octets, as a record of 29: 0, 60 or 10 to 14; and the place after it.
-#[unsafe(no_mangle)]
-pub extern "C" fn hb_npdu_read(octets: &[u8], fields: &mut [u8], next: &mut usize) -> u8
+pub fn hb_npdu_read(octets: &[u8], fields: &mut [u8], next: &mut usize) -> u8
     ensures { FillsTo 29 (eqb (read_npdu octets.now).refused 0) (read_npdu octets.now).refused (npdu_record (read_npdu octets.now).head) (read_npdu octets.now).next fields.old result next.new fields.new }
 {
     *next = 0;
@@ -34,8 +33,7 @@ pub extern "C" fn hb_npdu_read(octets: &[u8], fields: &mut [u8], next: &mut usiz
 }
 
 // The octets of a network header: 0, 60, 12 to 14 or 61; and how many were written.
-#[unsafe(no_mangle)]
-pub extern "C" fn hb_npdu_write(fields: &[u8], out: &mut [u8], wrote: &mut usize) -> u8
+pub fn hb_npdu_write(fields: &[u8], out: &mut [u8], wrote: &mut usize) -> u8
     ensures { Writes (npdu_fault fields.now) (encode (npdu_at fields.now)) out.old result wrote.new out.new }
 {
     *wrote = 0;
@@ -48,8 +46,7 @@ pub extern "C" fn hb_npdu_write(fields: &[u8], out: &mut [u8], wrote: &mut usize
 }
 
 // The header of an APDU, read by the edition that `later` says, as a record of 13: 0, 60 or 20 to 24; and the place where its parameters begin.
-#[unsafe(no_mangle)]
-pub extern "C" fn hb_apdu_read(octets: &[u8], later: u8, fields: &mut [u8], next: &mut usize) -> u8
+pub fn hb_apdu_read(octets: &[u8], later: u8, fields: &mut [u8], next: &mut usize) -> u8
     ensures { FillsTo 13 (apdu_good (read_apdu (edition_of later) octets.now)) (apdu_number (read_apdu (edition_of later) octets.now)) (apdu_octets (read_apdu (edition_of later) octets.now)) (apdu_params (read_apdu (edition_of later) octets.now)) fields.old result next.new fields.new }
 {
     *next = 0;
@@ -69,8 +66,7 @@ pub extern "C" fn hb_apdu_read(octets: &[u8], later: u8, fields: &mut [u8], next
 }
 
 // The octets of an APDU's header in the edition that `later` says: 0, 60, 21 to 23 or 61; and how many were written.
-#[unsafe(no_mangle)]
-pub extern "C" fn hb_apdu_write(fields: &[u8], later: u8, out: &mut [u8], wrote: &mut usize) -> u8
+pub fn hb_apdu_write(fields: &[u8], later: u8, out: &mut [u8], wrote: &mut usize) -> u8
     ensures { Writes (apdu_fault (edition_of later) fields.now) (header (apdu_at fields.now)) out.old result wrote.new out.new }
 {
     *wrote = 0;

@@ -11,8 +11,7 @@ use items::One;
 use reader::Step;
 
 // The items' records, 12 octets each, and their count: 0, 30 to 39, or 61 with the count needed and nothing written.
-#[unsafe(no_mangle)]
-pub extern "C" fn hb_items_list(octets: &[u8], listed: &mut [u8], count: &mut usize) -> u8
+pub fn hb_items_list(octets: &[u8], listed: &mut [u8], count: &mut usize) -> u8
     ensures { Lists octets.now listed.old result count.new listed.new }
 {
     let t = items::list(octets, listed);
@@ -20,8 +19,7 @@ pub extern "C" fn hb_items_list(octets: &[u8], listed: &mut [u8], count: &mut us
 }
 
 // The place after the item at a place, with its whole group where it opens one: 0 or 30 to 39.
-#[unsafe(no_mangle)]
-pub extern "C" fn hb_item_next(octets: &[u8], at: usize, next: &mut usize) -> u8
+pub fn hb_item_next(octets: &[u8], at: usize, next: &mut usize) -> u8
     ensures { Steps octets.now at result next.new }
 {
     match items::item_at(octets, at) {
@@ -37,8 +35,7 @@ pub extern "C" fn hb_item_next(octets: &[u8], at: usize, next: &mut usize) -> u8
 }
 
 // The reader's step: the record of the item or group at a place, and the place after it: 0, 60 or 30 to 39. At the end, 0 and no place.
-#[unsafe(no_mangle)]
-pub extern "C" fn hb_item_step(octets: &[u8], at: usize, item: &mut [u8], next: &mut usize) -> u8
+pub fn hb_item_step(octets: &[u8], at: usize, item: &mut [u8], next: &mut usize) -> u8
     ensures { FillsTo 12 (step_good (step_of octets.now at)) (step_number (step_of octets.now at)) (step_record (step_of octets.now at)) (step_place (step_of octets.now at)) item.old result next.new item.new }
 {
     *next = 0;
@@ -74,13 +71,7 @@ pub extern "C" fn hb_item_step(octets: &[u8], at: usize, item: &mut [u8], next: 
 }
 
 // The octets of the items that these records name in the source: 0, 62 or 61; and how many were written.
-#[unsafe(no_mangle)]
-pub extern "C" fn hb_items_write(
-    listed: &[u8],
-    source: &[u8],
-    out: &mut [u8],
-    wrote: &mut usize,
-) -> u8
+pub fn hb_items_write(listed: &[u8], source: &[u8], out: &mut [u8], wrote: &mut usize) -> u8
     ensures { Writes (write_fault listed.now source.now) (encode_all (things_of source.now (records_in listed.now))) out.old result wrote.new out.new }
 {
     let w = item_writer::write(listed, source, out);

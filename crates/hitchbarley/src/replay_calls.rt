@@ -2,8 +2,7 @@
 ghost use Rattle.hitchbarley.specs.Replay.{Replays};
 
 // Eats records through the first that causes a report, else up to a bad one, else all: 0, 60, 59, 68 or 67. With 67 the records before the bad one are eaten.
-#[unsafe(no_mangle)]
-pub extern "C" fn hb_replay(
+pub fn hb_replay(
     state: &mut [u8],
     records: &[u8],
     report: &mut [u8],

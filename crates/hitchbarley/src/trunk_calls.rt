@@ -10,8 +10,7 @@ use collector::{Collector, frame, heard, lent};
 use frames::Outcome;
 
 // Makes a fresh state of the edition that `later` says: 0 is 1995, any other number the later one. 0, or 60.
-#[unsafe(no_mangle)]
-pub extern "C" fn hb_fresh(state: &mut [u8], later: u8) -> u8
+pub fn hb_fresh(state: &mut [u8], later: u8) -> u8
     ensures { Saves (fresh_collector (edition_of later)) state.old result state.new }
 {
     let edition = state::edition_of(later);
@@ -90,8 +89,7 @@ fn feed_on(
 }
 
 // Eats a piece's octets through the first that causes a report, else all: 0, 60 or 59.
-#[unsafe(no_mangle)]
-pub extern "C" fn hb_feed(
+pub fn hb_feed(
     state: &mut [u8],
     piece: &[u8],
     report: &mut [u8],
@@ -118,8 +116,7 @@ pub extern "C" fn hb_feed(
 }
 
 // The line fell silent: 0, 60 or 59.
-#[unsafe(no_mangle)]
-pub extern "C" fn hb_silence(state: &mut [u8], report: &mut [u8], reported: &mut u8) -> u8
+pub fn hb_silence(state: &mut [u8], report: &mut [u8], reported: &mut u8) -> u8
     ensures { Stills state.old report.old result reported.new state.new report.new }
 {
     *reported = 0;
@@ -140,8 +137,7 @@ pub extern "C" fn hb_silence(state: &mut [u8], report: &mut [u8], reported: &mut
 }
 
 // Frees a slot: 0, 60, 59 or 56.
-#[unsafe(no_mangle)]
-pub extern "C" fn hb_forget(state: &mut [u8], slot: u8) -> u8
+pub fn hb_forget(state: &mut [u8], slot: u8) -> u8
     ensures { Forgets state.old slot result state.new }
 {
     let o = state::lift(state);

@@ -10,8 +10,7 @@ use crate::answers;
 use cutter::{Message, Way, WholeAck, WholeRequest};
 
 // A frame of this type, destination and source around these data: 0, 64 or 61; and how many octets were written.
-#[unsafe(no_mangle)]
-pub extern "C" fn hb_frame_write(
+pub fn hb_frame_write(
     kind: u8,
     destination: u8,
     source: u8,
@@ -57,8 +56,7 @@ fn message(fields: &[u8]) -> Message
 
 // The NPDUs of a message that is cut, end to end: 0, 60, 39, 64, 12, 21, 22, 23, 63 or 61; how many octets were written, and of how many segments.
 // The header is an APDU record of 13 with the window in its place, in the edition that `later` says; SEG, MOR and number in it are not looked at.
-#[unsafe(no_mangle)]
-pub extern "C" fn hb_cut(
+pub fn hb_cut(
     fields: &[u8],
     later: u8,
     reply: u8,
