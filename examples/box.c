@@ -4,7 +4,7 @@
 
      box [LUMP [later]]     LUMP: the most octets of a lump, 1 to 4096; 64 if it is left out; `later`: confirmed requests by the later edition
 
-   Build it for x86-64 beside the archive that `rt staticlib hitchbarley` writes:
+   Build it for x86-64 beside the archive that `sh include/archive` writes:
      cc -O2 -Iinclude examples/box.c target/staticlib/libhitchbarley.a -o box */
 #include <stdio.h>
 #include <stdlib.h>

@@ -1,6 +1,6 @@
 /* Hitchbarley: a BACnet listener for MS/TP trunks. This header is all that a program needs to know.
 
-   Link with target/staticlib/libhitchbarley.a, which `rt staticlib hitchbarley` writes (x86-64 Linux; of the C library it uses memcpy and memset alone).
+   Link with target/staticlib/libhitchbarley.a, which `sh include/archive` writes (x86-64 Linux; of the C library it uses memcpy and memset alone).
 
    Areas. A slice is a pointer and then its length. Every area is lent for the call alone; no two areas of a call overlap. Nothing is kept between calls and
    nothing is allocated, so calls for several trunks may be made at once, each with areas of its own. A length of 0 with any pointer is fine, but the pointer
