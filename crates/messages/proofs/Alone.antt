@@ -10,7 +10,7 @@ use lib.Dec.{eqb, ltb}
 use lib.ListN.{length, set, drop, length-set, length-append, length-drop}
 use lib.Seq.{length-take-le, get_or-set_same, get_or-set_other}
 use borrow.Author.Tests.{eqb-true, eqb-false, ltb-false}
-use Rattle.octets.specs.Choice.{pick, both, non, by_test, pick_case, both_left, both_right}
+use Rattle.octets.specs.Choice.{pick, non, by_test, pick_case, both_left, both_right}
 use Rattle.octets.specs.Splice.{splice}
 use Rattle.messages.specs.Slots.{room, part, Keys, KeyLaws, Segment, Slot, Box, lowest, or_else, is_some, empty, slot_at, open_to, is_free, slot_of}
 use Rattle.messages.specs.Rows.{Done, starts_at, next_number, starts, starts_in, kept, lost, awaiting, record_at, settle, settled, rows, rebuild, forget}

@@ -1,5 +1,5 @@
 -- One key by itself: what it has open, and what a segment of it gives, whatever other keys do.
-use Rattle.std.specs.Prelude.{◌≡◌, Bool, true, false, List, [], ◌∷◌, ◌++◌, ℕ, ◌+◌, ◌*◌, eqb, ltb, length}
+use Rattle.std.specs.Prelude.{◌≡◌, Bool, true, false, List, [], ◌∷◌, ◌++◌, ℕ, ◌*◌, eqb, ltb, length}
 use Rattle.std.proofs.Math.Option.{Option, none, some}
 use Rattle.octets.specs.Choice.{pick, both, non}
 use Rattle.messages.specs.Slots.{room, part, Keys, Segment, Box, lowest, is_some, slot_at, is_free, slot_of}
