@@ -72,28 +72,28 @@ module _ (x : ℕ) where
 
   -- a first octet is bad by a number of its low bits, or by MOR without SEG
   pub bad_request : x / 16 ≡ 0 → 0 < x % 2 → BadFirst x
-  bad_request k h = BadFirst.zero_bit_lem {i = 0} (rw k ZeroBit.request) (bit_zero (omega arith))
+  bad_request k h = BadFirst.zero_bit {i = 0} (rw k ZeroBit.request) (bit_zero (omega arith))
 
   pub bad_complex_ack : x / 16 ≡ 3 → 0 < x % 4 → BadFirst x
-  bad_complex_ack k h = bit_10 h (λ i l b. BadFirst.zero_bit_lem {i = i} (rw k (ZeroBit.complex_ack_lem l)) b)
+  bad_complex_ack k h = bit_10 h (λ i l b. BadFirst.zero_bit {i = i} (rw k (ZeroBit.complex_ack l)) b)
 
   pub bad_segment_ack : x / 16 ≡ 4 → 3 < x % 16 → BadFirst x
-  bad_segment_ack k h = bit_32 h (λ i m l b. BadFirst.zero_bit_lem {i = i} (rw k (ZeroBit.segment_ack_lem m l)) b)
+  bad_segment_ack k h = bit_32 h (λ i m l b. BadFirst.zero_bit {i = i} (rw k (ZeroBit.segment_ack m l)) b)
 
   pub bad_abort : x / 16 ≡ 7 → 1 < x % 16 → BadFirst x
-  bad_abort k h = bit_31 h (λ i m l b. BadFirst.zero_bit_lem {i = i} (rw k (ZeroBit.abort m l)) b)
+  bad_abort k h = bit_31 h (λ i m l b. BadFirst.zero_bit {i = i} (rw k (ZeroBit.abort m l)) b)
 
   pub bad_unconfirmed : x / 16 ≡ 1 → 0 < x % 16 → BadFirst x
-  bad_unconfirmed k h = bit_30 h (λ i l b. BadFirst.zero_bit_lem {i = i} (rw k (ZeroBit.unconfirmed l)) b)
+  bad_unconfirmed k h = bit_30 h (λ i l b. BadFirst.zero_bit {i = i} (rw k (ZeroBit.unconfirmed l)) b)
 
   pub bad_simple_ack : x / 16 ≡ 2 → 0 < x % 16 → BadFirst x
-  bad_simple_ack k h = bit_30 h (λ i l b. BadFirst.zero_bit_lem {i = i} (rw k (ZeroBit.simple_ack_lem l)) b)
+  bad_simple_ack k h = bit_30 h (λ i l b. BadFirst.zero_bit {i = i} (rw k (ZeroBit.simple_ack l)) b)
 
   pub bad_error : x / 16 ≡ 5 → 0 < x % 16 → BadFirst x
-  bad_error k h = bit_30 h (λ i l b. BadFirst.zero_bit_lem {i = i} (rw k (ZeroBit.error l)) b)
+  bad_error k h = bit_30 h (λ i l b. BadFirst.zero_bit {i = i} (rw k (ZeroBit.error l)) b)
 
   pub bad_reject : x / 16 ≡ 6 → 0 < x % 16 → BadFirst x
-  bad_reject k h = bit_30 h (λ i l b. BadFirst.zero_bit_lem {i = i} (rw k (ZeroBit.reject l)) b)
+  bad_reject k h = bit_30 h (λ i l b. BadFirst.zero_bit {i = i} (rw k (ZeroBit.reject l)) b)
 
   pub bad_more : (x / 16 ≡ 0) ⊎ (x / 16 ≡ 3) → mor_without_seg x ≡ true → BadFirst x
   bad_more k e = let b = lone_bits e in BadFirst.lone_more k b.0 b.1
@@ -135,14 +135,14 @@ most k = pick (eqb k 4) 3 (pick (eqb k 7) 1 0)
 set_zero : {k i : ℕ} → ZeroBit k i → (x : ℕ) → Bit x i → most k < x % within k
 set_zero ZeroBit.request x b = omega arith
 set_zero (ZeroBit.unconfirmed l) x b = set_30 x _ l b
-set_zero (ZeroBit.simple_ack_lem l) x b = set_30 x _ l b
-set_zero (ZeroBit.complex_ack_lem l) x b = set_10 x _ l b
-set_zero (ZeroBit.segment_ack_lem m l) x b = set_32 x _ m l b
+set_zero (ZeroBit.simple_ack l) x b = set_30 x _ l b
+set_zero (ZeroBit.complex_ack l) x b = set_10 x _ l b
+set_zero (ZeroBit.segment_ack m l) x b = set_32 x _ m l b
 set_zero (ZeroBit.error l) x b = set_30 x _ l b
 set_zero (ZeroBit.reject l) x b = set_30 x _ l b
 set_zero (ZeroBit.abort m l) x b = set_31 x _ m l b
 
 -- so a first octet that passes the tests of its type is not bad
 pub good_first : (k x : ℕ) → x / 16 ≡ k → x % within k ≤ most k → ((x / 16 ≡ 0) ⊎ (x / 16 ≡ 3) → mor_without_seg x ≡ false) → BadFirst x → ⊥
-good_first k x e h f (BadFirst.zero_bit_lem z b) = let v = set_zero z x b in let w : most k < x % within k = rw e at v in omega arith
+good_first k x e h f (BadFirst.zero_bit z b) = let v = set_zero z x b in let w : most k < x % within k = rw e at v in omega arith
 good_first k x e h f (BadFirst.lone_more s b g) = let v = bits_lone x b g in let w = f s in impossible (cc)

@@ -57,16 +57,16 @@ module _ (edition : Edition) where
   unfolding read_request read_unconfirmed read_simple_ack read_complex_ack read_segment_ack read_error read_reject read_abort
   zero_refused ZeroBit.request s l e b = as_request edition s l e ∙ simp (lt-ltb 0 (oct s 0 % 2) (omega arith))
   zero_refused (ZeroBit.unconfirmed h) s l e b = as_unconfirmed edition s l e ∙ simp (lt-ltb 0 (oct s 0 % 16) (set_30 (oct s 0) _ h b))
-  zero_refused (ZeroBit.simple_ack_lem h) s l e b = as_simple_ack edition s l e ∙ simp (lt-ltb 0 (oct s 0 % 16) (set_30 (oct s 0) _ h b))
-  zero_refused (ZeroBit.complex_ack_lem h) s l e b = as_complex_ack edition s l e ∙ simp (lt-ltb 0 (oct s 0 % 4) (set_10 (oct s 0) _ h b))
-  zero_refused (ZeroBit.segment_ack_lem m h) s l e b = as_segment_ack edition s l e ∙ simp (lt-ltb 3 (oct s 0 % 16) (set_32 (oct s 0) _ m h b))
+  zero_refused (ZeroBit.simple_ack h) s l e b = as_simple_ack edition s l e ∙ simp (lt-ltb 0 (oct s 0 % 16) (set_30 (oct s 0) _ h b))
+  zero_refused (ZeroBit.complex_ack h) s l e b = as_complex_ack edition s l e ∙ simp (lt-ltb 0 (oct s 0 % 4) (set_10 (oct s 0) _ h b))
+  zero_refused (ZeroBit.segment_ack m h) s l e b = as_segment_ack edition s l e ∙ simp (lt-ltb 3 (oct s 0 % 16) (set_32 (oct s 0) _ m h b))
   zero_refused (ZeroBit.error h) s l e b = as_error edition s l e ∙ simp (lt-ltb 0 (oct s 0 % 16) (set_30 (oct s 0) _ h b))
   zero_refused (ZeroBit.reject h) s l e b = as_reject edition s l e ∙ simp (lt-ltb 0 (oct s 0 % 16) (set_30 (oct s 0) _ h b))
   zero_refused (ZeroBit.abort m h) s l e b = as_abort edition s l e ∙ simp (lt-ltb 1 (oct s 0 % 16) (set_31 (oct s 0) _ m h b))
 
   first_refused : (s : List ℕ) → 0 < length s → BadFirst (oct s 0) → read_apdu edition s ≡ Refused 22
   unfolding read_request read_complex_ack
-  first_refused s l (BadFirst.zero_bit_lem z b) = zero_refused z s l refl b
+  first_refused s l (BadFirst.zero_bit z b) = zero_refused z s l refl b
   first_refused s l (BadFirst.lone_more (inl k) b f) = as_request edition s l k ∙ rw (bits_lone (oct s 0) b f) (pick_same (ltb 0 (oct s 0 % 2)) (Refused 22))
   first_refused s l (BadFirst.lone_more (inr k) b f) = as_complex_ack edition s l k ∙ rw (bits_lone (oct s 0) b f) (pick_same (ltb 0 (oct s 0 % 4)) (Refused 22))
 

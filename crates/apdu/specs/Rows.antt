@@ -18,16 +18,16 @@ Bit x i = x / 2 ^ i % 2 ≡ 1
 pub data ZeroBit : ℕ → ℕ → Type 0 where
   request : ZeroBit 0 0
   unconfirmed : {i : ℕ} → i ≤ 3 → ZeroBit 1 i
-  simple_ack_lem : {i : ℕ} → i ≤ 3 → ZeroBit 2 i
-  complex_ack_lem : {i : ℕ} → i ≤ 1 → ZeroBit 3 i
-  segment_ack_lem : {i : ℕ} → 2 ≤ i → i ≤ 3 → ZeroBit 4 i
+  simple_ack : {i : ℕ} → i ≤ 3 → ZeroBit 2 i
+  complex_ack : {i : ℕ} → i ≤ 1 → ZeroBit 3 i
+  segment_ack : {i : ℕ} → 2 ≤ i → i ≤ 3 → ZeroBit 4 i
   error : {i : ℕ} → i ≤ 3 → ZeroBit 5 i
   reject : {i : ℕ} → i ≤ 3 → ZeroBit 6 i
   abort : {i : ℕ} → 1 ≤ i → i ≤ 3 → ZeroBit 7 i
 
 -- a first octet with "zero bit set or MOR without SEG": bits 3 SEG, 2 MOR, of types 0 and 3
 pub data BadFirst (x : ℕ) : Type 0 where
-  zero_bit_lem : {i : ℕ} → ZeroBit (x / 16) i → Bit x i → BadFirst x
+  zero_bit : {i : ℕ} → ZeroBit (x / 16) i → Bit x i → BadFirst x
   lone_more : (x / 16 ≡ 0) ⊎ (x / 16 ≡ 3) → Bit x 2 → (Bit x 3 → ⊥) → BadFirst x
 
 -- 20 "ends early": not accepted, and some octets more would make it accepted
