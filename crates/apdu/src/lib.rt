@@ -10,7 +10,7 @@ pub mod fields; // fields.rt: what every kind of PDU can be asked
 
 // The edition of the standard by which confirmed requests are read and written: the first, of 1995, or the later one,
 // which uses bits 6 to 4 of their second octet for the segments they accept.
-#[derive(Drop)]
+#[derive(Clone, Copy)]
 pub enum Edition {
     First,
     Later,
@@ -27,7 +27,7 @@ pub fn most(edition: Edition) -> u8
 }
 
 // What a confirmed request and a complex ack say of segments. Without SEG, number and window are absent: 0 as read.
-#[derive(Drop)]
+#[derive(Clone, Copy)]
 pub struct Segment {
     pub seg: bool,
     pub mor: bool,
@@ -36,7 +36,7 @@ pub struct Segment {
 }
 
 // Segments accepted: 0 unspecified, 1 to 6 for 2, 4, 8, 16, 32 and 64, 7 for more than 64; 0 in the 1995 edition.
-#[derive(Drop)]
+#[derive(Clone, Copy)]
 pub struct RequestPdu {
     pub segment: Segment,
     pub sa: bool,
@@ -46,25 +46,25 @@ pub struct RequestPdu {
     pub accepts: u8,
 }
 
-#[derive(Drop)]
+#[derive(Clone, Copy)]
 pub struct UnconfirmedPdu {
     pub choice: u8,
 }
 
-#[derive(Drop)]
+#[derive(Clone, Copy)]
 pub struct SimpleAckPdu {
     pub invoke: u8,
     pub choice: u8,
 }
 
-#[derive(Drop)]
+#[derive(Clone, Copy)]
 pub struct ComplexAckPdu {
     pub segment: Segment,
     pub invoke: u8,
     pub choice: u8,
 }
 
-#[derive(Drop)]
+#[derive(Clone, Copy)]
 pub struct SegmentAckPdu {
     pub nak: bool,
     pub srv: bool,
@@ -73,19 +73,19 @@ pub struct SegmentAckPdu {
     pub window: u8,
 }
 
-#[derive(Drop)]
+#[derive(Clone, Copy)]
 pub struct ErrorPdu {
     pub invoke: u8,
     pub choice: u8,
 }
 
-#[derive(Drop)]
+#[derive(Clone, Copy)]
 pub struct RejectPdu {
     pub invoke: u8,
     pub reason: u8,
 }
 
-#[derive(Drop)]
+#[derive(Clone, Copy)]
 pub struct AbortPdu {
     pub srv: bool,
     pub invoke: u8,
@@ -93,7 +93,7 @@ pub struct AbortPdu {
 }
 
 // The kind of PDU and, inside that, its own fields. Parameters begin at fields::params_at and are the rest of the octets.
-#[derive(Drop)]
+#[derive(Clone, Copy)]
 pub enum Pdu {
     Request(RequestPdu),
     Unconfirmed(UnconfirmedPdu),
@@ -106,7 +106,7 @@ pub enum Pdu {
 }
 
 // The answer to a read APDU: the PDU, or the number of the refusal.
-#[derive(Drop)]
+#[derive(Clone, Copy)]
 pub enum Answer {
     Good(Pdu),
     Refused(u8),
