@@ -9,7 +9,7 @@ use lib.Dec.{leb, eqb, lit<}
 use lib.ListN.{length, get_or, take, drop, replicate, length-append, get_or-replicate, take-append-drop}
 use lib.Seq.{drop-cons, take-append-le, take-append_seam, get_or-append-add, get_or_at}
 use borrow.Author.Tests.{lt-leb, leb-true, leb-false, ne_eqb, eqb-true, eqb-false}
-use Rattle.octets.specs.Choice.{given, given_true, by_test}
+use Rattle.octets.specs.Choice.{given_true, by_test}
 use Rattle.octets.specs.Every.{octets_none, octets_more, octets_join}
 use Rattle.octets.specs.Has.{Has, has_append, has_left, has_right, all_has}
 use Rattle.octets.specs.Reading.{oct, Octets}

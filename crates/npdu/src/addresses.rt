@@ -5,6 +5,7 @@ ghost use Rattle.npdu.specs.Address.{absent, part_address, source_of, destinatio
 use crate::{Address, Npdu};
 
 // No address.
+#[tactic(auto, unfolding(crate::specs::Address::absent))]
 pub fn no_address() -> Address
     ensures { result ≡ absent }
 {
@@ -12,6 +13,7 @@ pub fn no_address() -> Address
 }
 
 // The address of a part, or none where the part is absent.
+#[tactic(auto, using(octets::specs::Rules::flags), unfolding(crate::specs::Address::part_address))]
 fn of_part(here: bool, net: u16, len: u8, adr: [u8; 7]) -> Address
     ensures { result ≡ part_address here net len adr }
 {
@@ -27,6 +29,7 @@ fn of_part(here: bool, net: u16, len: u8, adr: [u8; 7]) -> Address
 }
 
 // The source of a header.
+#[tactic(auto, unfolding(crate::specs::Address::source_of))]
 pub fn source_of(h: Npdu) -> Address
     ensures { result ≡ source_of h }
 {
@@ -35,6 +38,7 @@ pub fn source_of(h: Npdu) -> Address
 }
 
 // The destination of a header.
+#[tactic(auto, unfolding(crate::specs::Address::destination_of))]
 pub fn destination_of(h: Npdu) -> Address
     ensures { result ≡ destination_of h }
 {
@@ -57,6 +61,7 @@ fn same_octets(a: [u8; 7], b: [u8; 7]) -> bool
 }
 
 // Whether two addresses agree in network number, length and octets.
+#[tactic(auto, using(octets::specs::Rules::tests), unfolding(crate::specs::Address::same_fields))]
 fn same_fields(a: Address, b: Address) -> bool
     ensures { result ≡ same_fields a b }
 {
@@ -72,6 +77,7 @@ fn same_fields(a: Address, b: Address) -> bool
 }
 
 // Whether two addresses are the same. No address is the same as none, and as no other.
+#[tactic(auto, using(octets::specs::Rules::flags), unfolding(crate::specs::Address::same_address))]
 pub fn same_address(a: Address, b: Address) -> bool
     ensures { result ≡ same_address a b }
 {
@@ -90,6 +96,7 @@ pub fn same_address(a: Address, b: Address) -> bool
 }
 
 // Whether the octets past the length, and all fields of an absent address, are 0.
+#[tactic(auto, unfolding(crate::specs::Address::settled, crate::specs::Reading::address_of))]
 fn is_settled(a: Address) -> bool
     requires { a.present ≡ true → a.length ≤ 7 }
     ensures { result ≡ settled a }
@@ -104,6 +111,7 @@ fn is_settled(a: Address) -> bool
 }
 
 // Whether a part gives the address: its length at least low, its network number at most top.
+#[tactic(auto, using(octets::specs::Rules::tests), unfolding(crate::specs::Address::gives))]
 fn part_gives(a: Address, low: u8, top: u16) -> bool
     ensures { result ≡ gives low top a }
 {
@@ -115,6 +123,7 @@ fn part_gives(a: Address, low: u8, top: u16) -> bool
 }
 
 // Whether a header that keeps the rules gives the address as its source.
+#[tactic(auto, unfolding(crate::specs::Address::gives_source))]
 pub fn gives_source(a: Address) -> bool
     ensures { result ≡ gives_source a }
 {
@@ -122,6 +131,7 @@ pub fn gives_source(a: Address) -> bool
 }
 
 // Whether a header that keeps the rules gives the address as its destination.
+#[tactic(auto, unfolding(crate::specs::Address::gives_destination))]
 pub fn gives_destination(a: Address) -> bool
     ensures { result ≡ gives_destination a }
 {

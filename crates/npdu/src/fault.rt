@@ -5,6 +5,7 @@ ghost use Rattle.npdu.specs.Fault.{part_fault, fault_of};
 use crate::Npdu;
 
 // A part's refusal, or 0: an absent part is not looked at.
+#[tactic(auto, using(octets::specs::Rules::flags, octets::specs::Rules::tests), unfolding(crate::specs::Fault::part_fault, crate::specs::Fault::part_rules))]
 pub fn part_fault(here: bool, net: u16, len: u8, low: u8, top: u16) -> u8
     ensures { result ≡ part_fault here net len low top }
 {
@@ -26,6 +27,7 @@ pub fn part_fault(here: bool, net: u16, len: u8, low: u8, top: u16) -> u8
 }
 
 // The header's refusal, or 0: the first field in octet order that breaks a rule.
+#[tactic(auto, using(octets::specs::Rules::tests), unfolding(crate::specs::Fault::fault_of, crate::specs::Fault::sooner))]
 pub fn head_fault(h: Npdu) -> u8
     ensures { result ≡ fault_of h }
 {

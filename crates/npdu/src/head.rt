@@ -7,6 +7,7 @@ use crate::tail::Tail;
 use crate::{Npdu, Reading};
 
 // A refusal: every other field is 0.
+#[tactic(auto, unfolding(crate::specs::Reading::refused_by))]
 pub fn refused_by(n: u8) -> Reading
     ensures { result ≡ refused_by n }
 {
@@ -36,6 +37,7 @@ pub fn refused_by(n: u8) -> Reading
 }
 
 // The header of a control octet, both parts and the end.
+#[tactic(auto, using(octets::specs::Rules::tests), unfolding(crate::specs::Reading::after_tail, crate::specs::Reading::joined))]
 fn after_tail(c: u8, d: Part, q: Part, t: Tail) -> Reading
     ensures { result ≡ after_tail c d q t }
 {
@@ -69,6 +71,7 @@ fn after_tail(c: u8, d: Part, q: Part, t: Tail) -> Reading
 }
 
 // The header whose source part, if any, was read.
+#[tactic(auto, using(octets::specs::Rules::tests), unfolding(crate::specs::Reading::after_source))]
 fn after_source(s: &[u8], c: u8, d: Part, q: Part) -> Reading
     requires { q.next ≤ length s.now }
     ensures { result ≡ after_source s.now c d q }
@@ -87,6 +90,7 @@ fn after_source(s: &[u8], c: u8, d: Part, q: Part) -> Reading
 }
 
 // The header whose destination part, if any, was read.
+#[tactic(auto, using(octets::specs::Rules::tests), unfolding(crate::specs::Reading::after_dest))]
 fn after_dest(s: &[u8], c: u8, d: Part) -> Reading
     requires { d.next ≤ length s.now }
     ensures { result ≡ after_dest s.now c d }
@@ -105,6 +109,7 @@ fn after_dest(s: &[u8], c: u8, d: Part) -> Reading
 }
 
 // The header whose version is good and whose control octet is c.
+#[tactic(auto, using(octets::specs::Rules::tests), unfolding(crate::specs::Reading::after_version))]
 pub fn after_version(s: &[u8], c: u8) -> Reading
     requires { 2 ≤ length s.now }
     ensures { result ≡ after_version s.now c }

@@ -8,6 +8,7 @@ ghost use Rattle.npdu.specs.Size.{part_size, hop_size, message_size, parts_size,
 use crate::Npdu;
 
 // How many octets a part takes.
+#[tactic(auto, using(octets::specs::Rules::flags, octets::specs::Rules::tests), unfolding(crate::specs::Size::part_size))]
 fn part_size(here: bool, len: u8) -> usize
     ensures value { result ≡ part_size here len }
     ensures small { result ≤ 258 }
@@ -19,6 +20,7 @@ fn part_size(here: bool, len: u8) -> usize
 }
 
 // How many octets the hop count takes.
+#[tactic(auto, using(octets::specs::Rules::flags, octets::specs::Rules::tests), unfolding(crate::specs::Size::hop_size))]
 fn hop_size(here: bool) -> usize
     ensures value { result ≡ hop_size here }
     ensures small { result ≤ 1 }
@@ -30,6 +32,7 @@ fn hop_size(here: bool) -> usize
 }
 
 // How many octets a message's type takes, with its vendor.
+#[tactic(auto, using(octets::specs::Rules::flags, octets::specs::Rules::tests), unfolding(crate::specs::Size::kind_size, crate::specs::Size::message_size))]
 fn message_size(here: bool, kind: u8) -> usize
     ensures value { result ≡ message_size here kind }
     ensures small { result ≤ 3 }
@@ -44,6 +47,7 @@ fn message_size(here: bool, kind: u8) -> usize
 }
 
 // How many octets the header takes.
+#[tactic(auto, unfolding(crate::specs::Size::parts_size, crate::specs::Size::size_of, crate::specs::Size::tail_size))]
 pub fn size(h: Npdu) -> usize
     ensures { result ≡ size_of h }
 {
@@ -54,6 +58,7 @@ pub fn size(h: Npdu) -> usize
 }
 
 // A bit of this weight, if it is set.
+#[tactic(auto, using(octets::specs::Rules::flags, octets::specs::Rules::tests), unfolding(crate::specs::Layout::bit_of))]
 fn bit(b: bool, w: u8) -> u8
     ensures value { result ≡ bit_of b w }
     ensures small { result ≤ w }
@@ -65,6 +70,7 @@ fn bit(b: bool, w: u8) -> u8
 }
 
 // The control octet.
+#[tactic(auto, unfolding(crate::specs::Layout::control_of))]
 fn control(h: Npdu) -> u8
     requires { h.priority ≤ 3 }
     ensures { result ≡ control_of h }
@@ -73,6 +79,7 @@ fn control(h: Npdu) -> u8
 }
 
 // A part at a place, if it is present.
+#[tactic(auto, using(octets::specs::Rules::flags, octets::specs::Splice::splice_nil), unfolding(crate::specs::Layout::part_laid, crate::specs::Layout::part_octets))]
 fn put_part(out: &mut [u8], at: usize, here: bool, net: u16, len: u8, adr: [u8; 7])
     requires { (here ≡ true → len ≤ 7) × (at + part_size here len ≤ length out.old) }
     ensures { out.new ≡ splice out.old at (part_octets here net len adr) }
@@ -87,6 +94,7 @@ fn put_part(out: &mut [u8], at: usize, here: bool, net: u16, len: u8, adr: [u8; 
 }
 
 // A network message's type at a place, with its vendor.
+#[tactic(auto, using(octets::specs::Rules::flags, octets::specs::Splice::splice_nil, octets::specs::Rules::tests), unfolding(crate::specs::Size::kind_size, crate::specs::Layout::message_laid, crate::specs::Layout::message_octets))]
 fn put_message(out: &mut [u8], at: usize, here: bool, kind: u8, vendor: u16)
     requires { at + message_size here kind ≤ length out.old }
     ensures { out.new ≡ splice out.old at (message_octets here kind vendor) }
@@ -103,6 +111,7 @@ fn put_message(out: &mut [u8], at: usize, here: bool, kind: u8, vendor: u16)
 }
 
 // Both parts from a place on.
+#[tactic(auto, unfolding(crate::specs::Layout::parts_octets, crate::specs::Size::parts_size))]
 fn put_parts(out: &mut [u8], at: usize, h: Npdu)
     requires { (fault_of h ≡ 0) × (at + parts_size h ≤ length out.old) }
     ensures { out.new ≡ splice out.old at (parts_octets h) }
@@ -115,6 +124,7 @@ fn put_parts(out: &mut [u8], at: usize, h: Npdu)
 }
 
 // Hop count, message type and vendor from a place on.
+#[tactic(auto, unfolding(crate::specs::Layout::hop_octets, crate::specs::Size::hop_size, crate::specs::Layout::tail_octets, crate::specs::Size::tail_size))]
 fn put_tail(out: &mut [u8], at: usize, h: Npdu)
     requires { at + tail_size h ≤ length out.old }
     ensures { out.new ≡ splice out.old at (tail_octets h) }
@@ -129,6 +139,7 @@ fn put_tail(out: &mut [u8], at: usize, h: Npdu)
 }
 
 // The whole header at the front.
+#[tactic(auto, unfolding(crate::specs::Layout::encode, crate::specs::Size::parts_size, crate::specs::Size::size_of))]
 pub fn put_head(out: &mut [u8], h: Npdu)
     requires { (fault_of h ≡ 0) × (size_of h ≤ length out.old) }
     ensures { out.new ≡ splice out.old 0 (encode h) }

@@ -15,7 +15,7 @@ ghost use Rattle.npdu.specs.Fault.{fault_of};
 ghost use Rattle.npdu.specs.Reading.{read_npdu};
 
 // A header's fields. Those of an absent part, and address octets past the length, are read as 0 and are not looked at in writing.
-#[derive(Drop)]
+#[derive(Clone, Copy)]
 pub struct Npdu {
     pub message: bool,
     pub dest: bool,
@@ -34,7 +34,7 @@ pub struct Npdu {
 }
 
 // An address on a network: a header's source or its destination. Without one, present is false and all else 0.
-#[derive(Drop)]
+#[derive(Clone, Copy)]
 pub struct Address {
     pub present: bool,
     pub network: u16,
@@ -53,7 +53,7 @@ impl Address {
 }
 
 // What reading gives: a refusal number, or 0 with the header and the place where what follows it begins.
-#[derive(Drop)]
+#[derive(Clone, Copy)]
 pub struct Reading {
     pub refused: u8,
     pub next: usize,
@@ -61,6 +61,7 @@ pub struct Reading {
 }
 
 // The header at the front of these octets, or 10 to 14. Each octet is reached before it is judged.
+#[tactic(auto, using(octets::specs::Rules::tests), unfolding(crate::specs::Reading::read_npdu))]
 pub fn read(s: &[u8]) -> Reading
     ensures { result ≡ read_npdu s.now }
 {

@@ -13,6 +13,7 @@ pub struct Part {
 }
 
 // A part with no fields: refused, or absent at a place.
+#[tactic(auto, unfolding(crate::specs::Reading::no_part))]
 fn no_part(refused: u8, next: usize) -> Part
     ensures { result ≡ no_part refused next }
 {
@@ -38,6 +39,7 @@ pub fn address(s: &[u8], at: usize, n: usize) -> [u8; 7]
 }
 
 // The part at a place whose network number was reached.
+#[tactic(auto, using(octets::specs::Rules::tests), unfolding(crate::specs::Reading::part_len, crate::specs::Reading::part_net))]
 fn part_net(s: &[u8], at: usize, net: u16, low: u8, top: u16) -> Part
     requires { at + 2 ≤ length s.now }
     ensures { result ≡ part_net s.now at net low top }
@@ -73,6 +75,7 @@ fn part_net(s: &[u8], at: usize, net: u16, low: u8, top: u16) -> Part
 }
 
 // The part at a place: its length at least low, its network number at most top.
+#[tactic(auto, using(octets::specs::Rules::tests), unfolding(crate::specs::Reading::part_of))]
 fn part_at(s: &[u8], at: usize, low: u8, top: u16) -> Part
     requires { at ≤ length s.now }
     ensures { result ≡ part_of s.now at low top }
@@ -87,6 +90,7 @@ fn part_at(s: &[u8], at: usize, low: u8, top: u16) -> Part
 }
 
 // The part at a place, if it is present.
+#[tactic(auto, using(octets::specs::Rules::flags, octets::specs::Rules::tests), unfolding(crate::specs::Reading::part_if))]
 pub fn part_if(s: &[u8], at: usize, here: bool, low: u8, top: u16) -> Part
     requires { at ≤ length s.now }
     ensures { result ≡ part_if s.now at here low top }

@@ -13,6 +13,7 @@ pub struct Tail {
 }
 
 // The end without fields, refused.
+#[tactic(auto, unfolding(crate::specs::Reading::ended))]
 fn early() -> Tail
     ensures { result ≡ ended 10 0 0 0 0 }
 {
@@ -26,6 +27,7 @@ fn early() -> Tail
 }
 
 // What follows a message's type: from type 80 hex a vendor.
+#[tactic(auto, using(octets::specs::Rules::tests), unfolding(crate::specs::Reading::ended, crate::specs::Reading::vendor_at))]
 fn vendor(s: &[u8], at: usize, hops: u8, kind: u8) -> Tail
     requires { at ≤ length s.now }
     ensures { result ≡ vendor_at s.now at hops kind }
@@ -56,6 +58,7 @@ fn vendor(s: &[u8], at: usize, hops: u8, kind: u8) -> Tail
 }
 
 // What follows the hop count: for a network message its type.
+#[tactic(auto, using(octets::specs::Rules::flags, octets::specs::Rules::tests), unfolding(crate::specs::Reading::ended, crate::specs::Reading::message_at))]
 fn message(s: &[u8], at: usize, hops: u8, here: bool) -> Tail
     requires { at ≤ length s.now }
     ensures { result ≡ message_at s.now at hops here }
@@ -76,6 +79,7 @@ fn message(s: &[u8], at: usize, hops: u8, here: bool) -> Tail
 }
 
 // What follows the two parts: a hop count where there is a destination.
+#[tactic(auto, using(octets::specs::Rules::flags, octets::specs::Rules::tests), unfolding(crate::specs::Reading::tail_at))]
 pub fn tail_at(s: &[u8], at: usize, dest: bool, here: bool) -> Tail
     requires { at ≤ length s.now }
     ensures { result ≡ tail_at s.now at dest here }
