@@ -1,14 +1,10 @@
 -- "Octets are judged left to right and a missing octet when it is reached": what a head says of the front of the octets, it says of all of them, unless an octet was missing.
-use Prim.Native.Nat.{ℕ, ◌+◌, ◌-◌, ◌/◌, ◌%◌, ◌≤◌, ◌<◌}
+use Prim.Native.Nat.{ℕ, ◌+◌, ◌/◌, ◌%◌, ◌<◌}
 use native.Mathlib.Omega.{arith}
-use mathlib.Core.Path.{◌≡◌, refl}
 use mathlib.Core.List.{List, ◌++◌}
-use mathlib.Core.Bool.{Bool, true, false}
-use mathlib.Core.Logic.{◌⊎◌, inl, inr}
-use lib.ListN.{length, length-append, get_or-append}
-use lib.Dec.{ltb, leb, eqb}
-use borrow.Author.Tests.{leb-false, ltb-false, lt-leb, le-ltb}
-use Rattle.octets.specs.Choice.{pick, by_test}
+use mathlib.Core.Logic.{inl, inr}
+use lib.ListN.{length}
+use lib.Dec.{ltb, eqb}
 use Rattle.octets.specs.Reading.{oct, refuse}
 use Rattle.octets.specs.Front.{Front, front_same, front_pick, front_octet, front_reach, front_within, front_long}
 use Rattle.tags.specs.Types.{least, most}

@@ -1,7 +1,6 @@
 -- One item is read at a place exactly when one whole item stands there: its octets, its end and its records.
 use Prim.Native.Nat.{ℕ, zero, suc, ◌+◌, ◌-◌, ◌≤◌, ◌<◌}
 use native.Mathlib.Omega.{arith}
-use native.Mathlib.Numerals.{add-one}
 use mathlib.Core.Path.{◌≡◌, refl, sym, ap, subst, ◌∙◌}
 use mathlib.Core.Logic.{◌↔◌}
 use mathlib.Core.List.{List, [], ◌∷◌, ◌++◌}
@@ -19,11 +18,11 @@ use Rattle.tags.proofs.Exact.{encode_some, head_complete, head_sound}
 use Rattle.items.specs.Records.{Rec}
 use Rattle.items.specs.Reading.{Out, more, closes, step, within, item_at, one_at, most_items, deepest}
 use Rattle.items.specs.Reading.Out.{good, bad}
-use Rattle.items.specs.Grammar.{encode_all, Balanced, AllValid, Grammar, record_of, depth_after, records_from}
-use Rattle.items.specs.OneItem.{Single, OneItem, StandsOne}
+use Rattle.items.specs.Grammar.{encode_all, AllValid, record_of, depth_after, records_from}
+use Rattle.items.specs.OneItem.{Single, StandsOne}
 use Rattle.items.proofs.Machine.{more_records, more_good, never, within_done}
 use Rattle.items.proofs.Longest.{one_within, one_read}
-use Rattle.items.proofs.Closing.{Behind, Closing, none_closed, behind_one, behind_balanced, First, one_first}
+use Rattle.items.proofs.Closing.{Behind, Closing, none_closed, behind_one, behind_balanced, one_first}
 use Rattle.items.proofs.Exact.{simple_step, open_step, close_step, simple_depth, good_head}
 
 -- ---- the items that stand somewhere, and what the reading gives of them

@@ -1,7 +1,6 @@
 -- A run of items is refused with a number exactly when the page's row says so: the good items in front are those that the reading passed.
 use Prim.Native.Nat.{ℕ, zero, suc, ◌+◌, ◌≤◌, ◌<◌}
 use native.Mathlib.Omega.{arith}
-use native.Mathlib.Nat.{zero-add}
 use mathlib.Core.Path.{◌≡◌, refl, sym, ap, subst, ◌∙◌}
 use mathlib.Core.Bool.{true, false}
 use mathlib.Core.Logic.{◌⊎◌, inl, inr, ◌↔◌}
@@ -10,7 +9,7 @@ use lib.ListN.{length, drop, length-append, take-append-drop}
 use lib.Seq.{get_or-drop, get_or-append-add}
 use lib.Dec.{ltb, leb, eqb}
 use borrow.Author.Tests.{leb-true, leb-false, ltb-true, ltb-false, eqb-true, eqb-false, lt-leb, le-leb, lt-ltb, le-ltb, eq-eqb, ne_eqb}
-use Rattle.octets.specs.Choice.{pick, pick_cases, pick_which, by_test}
+use Rattle.octets.specs.Choice.{pick_cases, pick_which, by_test}
 use Rattle.octets.specs.Reading.{Octets}
 use Rattle.octets.specs.Has.{Has, has_cut, has_left, all_has}
 use Rattle.tags.specs.Types.{longest}
@@ -27,7 +26,7 @@ use Rattle.items.specs.Records.{Rec}
 use Rattle.items.specs.Reading.{Out, more, ending, closes, step, walk, items_of, most_items, deepest}
 use Rattle.items.specs.Reading.Out.{good, bad}
 use Rattle.items.specs.Grammar.{encode_all, AllValid, record_of}
-use Rattle.items.specs.Rows.{Leads, Innermost, GoodFront, Behind, Row}
+use Rattle.items.specs.Rows.{Leads, Innermost, Behind, Row}
 use Rattle.items.specs.Rows.Behind.{ends_open, one_more, closes_other, opens_deeper, breaks}
 use Rattle.items.specs.Rows.Row.{too_long_lem, offends}
 use Rattle.items.proofs.Machine.{more_bad, never, walk_ends, walk_steps}
