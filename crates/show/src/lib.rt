@@ -3,8 +3,6 @@
 
 ghost use Rattle.std.specs.Prelude.{◌≤◌};
 
-use libc::STDOUT_FILENO;
-
 // An octet as a number to reckon with.
 pub fn word(x: u8) -> u32
     ensures { result ≤ 255 }
@@ -12,14 +10,14 @@ pub fn word(x: u8) -> u32
     x as u32
 }
 
-// Text to standard output.
-pub fn text(s: &[u8]) {
-    io::write_all(STDOUT_FILENO, s);
+// Text to standard output; an output that takes no more is passed over.
+pub fn text(rt: &impl Print, s: &[u8]) {
+    let _ = rt.write_all(s);
 }
 
 // A number in decimal.
-pub fn number(n: u32) {
-    io::print_decimal(STDOUT_FILENO, n as u64);
+pub fn number(rt: &impl Print, n: u32) {
+    let _ = rt.print(n);
 }
 
 fn digit(x: u8) -> u8 {
@@ -31,19 +29,19 @@ fn digit(x: u8) -> u8 {
 }
 
 // An octet as two hexadecimal digits.
-pub fn octet(x: u8) {
+pub fn octet(rt: &impl Print, x: u8) {
     let two = [digit(x / 16), digit(x)];
-    text(&two);
+    text(rt, &two);
 }
 
 // Octets with a space between.
-pub fn row(s: &[u8]) {
+pub fn row(rt: &impl Print, s: &[u8]) {
     let mut i = 0;
     while i < s.len() {
         if 0 < i {
-            text(b" ");
+            text(rt, b" ");
         }
-        octet(s[i]);
+        octet(rt, s[i]);
         i += 1;
     }
 }
