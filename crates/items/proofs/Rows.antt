@@ -28,7 +28,7 @@ use Rattle.items.specs.Reading.Out.{good, bad}
 use Rattle.items.specs.Grammar.{encode_all, AllValid, record_of}
 use Rattle.items.specs.Rows.{Leads, Innermost, Behind, Row}
 use Rattle.items.specs.Rows.Behind.{ends_open, one_more, closes_other, opens_deeper, breaks}
-use Rattle.items.specs.Rows.Row.{too_long_lem, offends}
+use Rattle.items.specs.Rows.Row.{too_long, offends}
 use Rattle.items.proofs.Machine.{more_bad, never, walk_ends, walk_steps}
 use Rattle.items.specs.OneItem.{Single}
 use Rattle.items.proofs.Exact.{simple_step, open_step, close_step}
@@ -247,7 +247,7 @@ row_of x o short f =
 
 row_is : (x : ℕ) (o : List ℕ) → Octets o → Row x o → items_of o ≡ bad x
 unfolding items_of
-row_is x o os (too_long_lem e long) = rw (lt-ltb longest (length o) long, e)
+row_is x o os (too_long e long) = rw (lt-ltb longest (length o) long, e)
 row_is x o os (offends short ts gs r f b) =
     let e : length ts ≡ 0 + length ts = omega arith in
     let left : Octets r = octets_behind (encode_all ts) r (subst Octets f.octets os) in
@@ -257,7 +257,7 @@ row_is x o os (offends short ts gs r f b) =
 pub rows_exact : (o : List ℕ) → Octets o → (x : ℕ) → (items_of o ≡ bad x) ↔ Row x o
 unfolding items_of
 rows_exact o os x = (
-  λ e. by_test (ltb longest (length o)) (λ h. let z : bad 39 ≡ bad x = rw h at e in let y : x ≡ 39 = cc in too_long_lem y (ltb-true longest (length o) h)) (λ h.
+  λ e. by_test (ltb longest (length o)) (λ h. let z : bad 39 ≡ bad x = rw h at e in let y : x ≡ 39 = cc in too_long y (ltb-true longest (length o) h)) (λ h.
       row_of x o (ltb-false longest (length o) h) (found x most_items 0 (omega arith) [] o os (omega arith) (rw h at e))),
   row_is x o os,
 )

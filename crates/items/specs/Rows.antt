@@ -45,5 +45,5 @@ pub data Behind (x i : ℕ) (gs r : List ℕ) : Type 0 where
 -- a run of items breaks the row x
 pub data Row (x : ℕ) (o : List ℕ) : Type 0 where
   -- 39: "over 16,384 parameter octets (judged first)"
-  too_long_lem : x ≡ 39 → 16384 < length o → Row x o
+  too_long : x ≡ 39 → 16384 < length o → Row x o
   offends : length o ≤ 16384 → (ts : List Thing) (gs r : List ℕ) → GoodFront o ts gs r → Behind x (length ts) gs r → Row x o

@@ -12,7 +12,7 @@ ghost use Rattle.items.specs.Listing.{Listed};
 use tags::Tag;
 
 // What listing answers: the number of items; 61 with the number needed, where their records do not fit; or the number of a tag's refusal.
-#[derive(Drop)]
+#[derive(Clone, Copy)]
 pub enum Tally {
     Items(usize),
     Small(usize),
@@ -20,7 +20,7 @@ pub enum Tally {
 }
 
 // How reading an item or a group ends: the next place and the items so far; a closing tag that is somebody else's; or a refusal.
-#[derive(Drop)]
+#[derive(Clone, Copy)]
 pub enum Step {
     Next { at: usize, items: usize },
     Closed { number: u8, at: usize, items: usize },
@@ -28,7 +28,7 @@ pub enum Step {
 }
 
 // What reading one item with its whole group answers: the place after it, or the number of the refusal.
-#[derive(Drop)]
+#[derive(Clone, Copy)]
 pub enum One {
     Next(usize),
     Refused(u8),

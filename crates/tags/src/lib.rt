@@ -9,7 +9,7 @@ ghost use Rattle.std.specs.Prelude.{◌≡◌, ℕ};
 ghost use Rattle.tags.specs.Reading.{head_at};
 
 // A field of a tag: its value and the place after it, or the number of its refusal.
-#[derive(Drop)]
+#[derive(Clone, Copy)]
 pub enum Field {
     Is { value: usize, next: usize },
     Bad(u8),
@@ -17,7 +17,7 @@ pub enum Field {
 
 // What stands at a place: an item with contents or a boolean (kind 0 application, 1 context), an opening, a closing, or a refusal.
 // `place` is the octet after the tag.
-#[derive(Drop)]
+#[derive(Clone, Copy)]
 pub enum Tag {
     Item {
         kind: u8,
