@@ -18,9 +18,8 @@ use Rattle.tags.specs.declared.Tag.{Tag}
 use Rattle.tags.proofs.Refusals.{TagHas, refusals_have}
 use Rattle.tags.proofs.Exact.{encode_length, encode_some, head_complete, head_sound}
 use Rattle.items.specs.Records.{Rec, rec}
-use Rattle.items.specs.Reading.{Out, item_at, one_at, end_of}
+use Rattle.items.specs.Reading.{Out, item_at, end_of}
 use Rattle.items.specs.Reading.Out.{good, bad}
-use Rattle.items.specs.declared.One.{One}
 use Rattle.items.specs.Grammar.{encode_all, AllValid, Grammar, record_of, records_from}
 use Rattle.items.specs.OneItem.{Single, OneItem, StandsOne}
 use Rattle.items.specs.OneItem.OneItem.{single, group}

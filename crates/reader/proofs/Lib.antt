@@ -4,4 +4,3 @@ pub mod Walking
 pub mod Onward
 pub mod Exact
 pub mod Rows
-pub mod Passed

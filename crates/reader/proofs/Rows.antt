@@ -23,16 +23,14 @@ use Rattle.items.specs.Reading.{Out, more, closes, step, within, item_at, one_at
 use Rattle.items.specs.Reading.Out.{good, bad}
 use Rattle.items.specs.Grammar.{encode_all, AllValid, record_of}
 use Rattle.items.specs.OneItem.{Single}
-use Rattle.items.specs.declared.One.{One}
 use Rattle.items.proofs.Machine.{more_bad, within_done}
 use Rattle.items.proofs.Longest.{one_over, one_within}
 use Rattle.items.proofs.Exact.{simple_step, open_step, close_step}
-use Rattle.reader.specs.declared.Step.{Step}
-use Rattle.reader.specs.declared.Step.TheVariants.{Item, Group, End, Refused}
+use Rattle.reader.specs.declared.Step.TheVariants.{Refused}
 use Rattle.reader.specs.Reading.{shown, judged, step_of}
-use Rattle.reader.specs.Rows.{Leads, Front, Innermost, Offence, Row}
+use Rattle.reader.specs.Rows.{Leads, Front, Offence, Row}
 use Rattle.reader.specs.Rows.Front.{nothing, opened}
-use Rattle.reader.specs.Rows.Offence.{group_open, too_many, other_closing_lem, too_deep_lem, tag}
+use Rattle.reader.specs.Rows.Offence.{group_open, too_many, other_closing, too_deep, tag}
 use Rattle.reader.proofs.Heads.{step_over, step_end, step_by, step_item, step_open, step_closing, step_refused}
 
 -- ---- refusals of what comes behind a record
@@ -109,7 +107,7 @@ module _ (s : List ℕ) (os : Octets s) (x : ℕ) where
     opening_refused at m gs n v h e =
         let b = has_bound s at (encode (opening n)) h in
         ⊎_elim
-        (λ w. meets_here s at i (m ∷ gs) x (omega arith) (omega arith) (too_deep_lem (same_number 37 x w.1) room n v h (leb-true _ _ w.0)))
+        (λ w. meets_here s at i (m ∷ gs) x (omega arith) (omega arith) (too_deep (same_number 37 x w.1) room n v h (leb-true _ _ w.0)))
         (λ w. meets_more s at i (m ∷ gs) (n ∷ m ∷ gs) x (opening n) v h (λ ts gs' l. (leb-false _ _ w.0, l)) (ih (at + length (encode (opening n))) n (m ∷ gs) b (more_refused _ _ x w.1)))
         (pick_which (leb deepest (length (m ∷ gs))) (bad 37) _ (bad x) (sym (open_step rest at (m ∷ gs) n) ∙ e))
 
@@ -123,7 +121,7 @@ module _ (s : List ℕ) (os : Octets s) (x : ℕ) where
         let b = has_bound s at (encode (closing n)) h in
         ⊎_elim
         (λ w. own_closing at m gs n v h (eqb-true n m w.0) (more_refused _ _ x w.1))
-        (λ w. meets_here s at i (m ∷ gs) x (omega arith) (omega arith) (other_closing_lem (same_number 35 x w.1) room n v h (eqb-false n m w.0)))
+        (λ w. meets_here s at i (m ∷ gs) x (omega arith) (omega arith) (other_closing (same_number 35 x w.1) room n v h (eqb-false n m w.0)))
         (pick_which (eqb n m) _ (bad 35) (bad x) (sym (close_step rest at m gs n) ∙ e))
 
     thing_refused : (at m : ℕ) (gs : List ℕ) (t : Thing) → Valid t → Has s at (encode t) → step rest (tag_of at t) (m ∷ gs) ≡ bad x → Meets s at i (m ∷ gs) x
@@ -195,7 +193,7 @@ module _ (s : List ℕ) (os : Octets s) (x : ℕ) where
       (λ z. absurd (omega (arith, leb-true deepest 0 z.0)))
       (λ z. row_opened at n v w (within_meets last 1 (omega arith) (at + length (encode (opening n))) n [] (has_bound s at (encode (opening n)) w) (more_refused _ _ x z.1)))
       (pick_which (leb deepest 0) (bad 37) _ (bad x) (sym (open_step (within last s) at [] n) ∙ e))
-  first_thing at h (closing n) v w e = row_none at (omega arith) (other_closing_lem (same_number 35 x e) (omega arith) n v w (λ z. z))
+  first_thing at h (closing n) v w e = row_none at (omega arith) (other_closing (same_number 35 x e) (omega arith) n v w (λ z. z))
 
   item_row : (at : ℕ) → at < length s → item_at s at ≡ bad x → Row s at x
   unfolding item_at step
@@ -223,10 +221,10 @@ module _ (s : List ℕ) (os : Octets s) (x : ℕ) where
   offends (suc k) i at m gs c (group_open e _ h) = rw (le-leb _ _ h, e)
   offends zero i at m gs c (too_many e h many) = rw (lt-leb _ _ h, e)
   offends (suc k) i at m gs c (too_many e h many) = absurd (omega arith)
-  offends zero i at m gs c (other_closing_lem e room n v h other) = absurd (omega arith)
-  offends (suc k) i at m gs c (other_closing_lem e room n v h other) = at_thing k at m gs (closing n) v h ∙ close_step (within k s) at m gs n ∙ rw (ne_eqb n m other, e)
-  offends zero i at m gs c (too_deep_lem e room n v h deep) = absurd (omega arith)
-  offends (suc k) i at m gs c (too_deep_lem e room n v h deep) = at_thing k at m gs (opening n) v h ∙ open_step (within k s) at (m ∷ gs) n ∙ rw (le-leb deepest (length (m ∷ gs)) deep, e)
+  offends zero i at m gs c (other_closing e room n v h other) = absurd (omega arith)
+  offends (suc k) i at m gs c (other_closing e room n v h other) = at_thing k at m gs (closing n) v h ∙ close_step (within k s) at m gs n ∙ rw (ne_eqb n m other, e)
+  offends zero i at m gs c (too_deep e room n v h deep) = absurd (omega arith)
+  offends (suc k) i at m gs c (too_deep e room n v h deep) = at_thing k at m gs (opening n) v h ∙ open_step (within k s) at (m ∷ gs) n ∙ rw (le-leb deepest (length (m ∷ gs)) deep, e)
   offends zero i at m gs c (tag room h g) = absurd (omega arith)
   offends (suc k) i at m gs c (tag room h g) = within_steps k s at m gs h ∙ rw ((rows_exact s os at x).1 g)
 
@@ -295,8 +293,8 @@ module _ (s : List ℕ) (os : Octets s) (x : ℕ) where
   unfolding item_at step closes tag_of
   first_offends at (group_open e some h) = absurd (omega arith)
   first_offends at (too_many e h many) = absurd (omega arith)
-  first_offends at (other_closing_lem e room n v h other) = rw (head_complete s at (closing n) v h, e)
-  first_offends at (too_deep_lem e room n v h deep) = absurd (omega arith)
+  first_offends at (other_closing e room n v h other) = rw (head_complete s at (closing n) v h, e)
+  first_offends at (too_deep e room n v h deep) = absurd (omega arith)
   first_offends at (tag room h g) = rw ((rows_exact s os at x).1 g)
 
   first_opens : (at n : ℕ) (us : List Thing) (gs : List ℕ) → length (opening n ∷ us) ≤ most_items → Leads (n ∷ []) us gs → Known at 0 (opening n ∷ us) gs → item_at s at ≡ bad x

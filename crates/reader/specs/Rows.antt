@@ -34,9 +34,9 @@ pub data Offence (s : List ℕ) (q i : ℕ) (gs : List ℕ) (x : ℕ) : Type 0 w
   -- 38: "a 2,049th item begins"
   too_many : x ≡ 38 → q < length s → most_items ≤ i → Offence s q i gs x
   -- 35: "closing tag without the same number innermost"
-  other_closing_lem : x ≡ 35 → i < most_items → (n : ℕ) → Valid (closing n) → Has s q (encode (closing n)) → (Innermost gs n → ⊥) → Offence s q i gs x
+  other_closing : x ≡ 35 → i < most_items → (n : ℕ) → Valid (closing n) → Has s q (encode (closing n)) → (Innermost gs n → ⊥) → Offence s q i gs x
   -- 37: "opening with 16 open"
-  too_deep_lem : x ≡ 37 → i < most_items → (n : ℕ) → Valid (opening n) → Has s q (encode (opening n)) → deepest ≤ length gs → Offence s q i gs x
+  too_deep : x ≡ 37 → i < most_items → (n : ℕ) → Valid (opening n) → Has s q (encode (opening n)) → deepest ≤ length gs → Offence s q i gs x
   -- 30 to 34: the rows of one tag
   tag : i < most_items → q < length s → Given x s q → Offence s q i gs x
 

@@ -1,5 +1,5 @@
 -- What stands at the reader's place, apart from any reading: a single item, a whole group, or a closing tag.
-use Rattle.std.specs.Prelude.{ℕ, ◌+◌, ◌≤◌, ◌≡◌, List, [], ◌∷◌, ◌++◌, length}
+use Rattle.std.specs.Prelude.{ℕ, ◌+◌, ◌≡◌, List, [], ◌∷◌, ◌++◌, length}
 use Rattle.octets.specs.Has.{Has}
 use Rattle.tags.specs.Layout.{Thing, encode, Valid}
 use Rattle.tags.specs.Layout.Thing.{opening, closing}

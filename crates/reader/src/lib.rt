@@ -7,9 +7,9 @@ ghost use Rattle.reader.specs.Reading.{step_of};
 use items::One;
 use tags::Tag;
 
-// "carries the parameter octets and its own place". The borrow checker covers no function over a struct that holds a
-// reference, so these are few and thin: `step_at` does their work on plain parameters.
-#[derive(Drop)]
+// "carries the parameter octets and its own place". The functions over it are few and thin: `step_at` does their work on plain
+// parameters.
+#[derive(Clone, Copy)]
 pub struct Reader<'a> {
     pub params: &'a [u8],
     pub at: usize,
@@ -17,7 +17,7 @@ pub struct Reader<'a> {
 
 // What stands at the reader's place: an item (kind 0 application, 1 context), a whole group, the end, or the number of the
 // refusal. `place` is the octet after the tag, `next` the place after the item or after the group's closing.
-#[derive(Drop)]
+#[derive(Clone, Copy)]
 pub enum Step {
     Item {
         kind: u8,
