@@ -17,7 +17,7 @@ use Rattle.items.proofs.Exact.{written, reads, exact}
 use Rattle.services.specs.Reading.{layout_for, after_tags, read_service}
 use Rattle.services.specs.Layout.{Message, pointed, valued, optional, things_of_message, encode, WholeValue}
 use Rattle.services.specs.Layout.Message.{read_property, read_property_ack, write_property, who_is, i_am, error_of}
-use Rattle.services.specs.Shows.{For, message_of, ValueReads, Shows, ValidFor}
+use Rattle.services.specs.Shows.{message_of, ValueReads, Shows, ValidFor}
 use Rattle.services.specs.declared.Answer.{Answer}
 use Rattle.services.specs.declared.Answer.TheVariants.{Good}
 use Rattle.services.specs.declared.Service.{Service}

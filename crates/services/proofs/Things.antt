@@ -7,7 +7,7 @@ use mathlib.Core.Bool.{Bool, true, false}
 use lib.ListN.{length, length-append}
 use lib.Dec.{ltb}
 use borrow.Author.Tests.{eq-eqb, eqb-true, ltb-false}
-use Rattle.octets.specs.Choice.{both, non, pick_not, by_test, impossible, not_so}
+use Rattle.octets.specs.Choice.{non, pick_not, by_test, impossible, not_so}
 use Rattle.octets.specs.Reading.{Octets}
 use Rattle.octets.specs.Has.{Has, has_left, has_right, has_bound, has_cut}
 use Rattle.octets.specs.Numbers.{value_at}

@@ -70,7 +70,7 @@ module _ (s : List ℕ) (at : ℕ) (rs : List Rec) (w : Left s at rs) where
     pub stops_group : (x : ℕ) → q ≡ ValuePart.Refused x → Refused x ≡ group number next rs
     stops_group x e = Places.value_stops s at (group number) q says e next rs w
 
-pub ruleset in-turn = (reads_item, stops_item, reads_number, stops_number, reads_target, stops_target, reads_group, stops_group)
+pub ruleset in_turn = (reads_item, stops_item, reads_number, stops_number, reads_target, stops_target, reads_group, stops_group)
 
 -- a target, after its object and its property
 pub target_ends : (s : List ℕ) (q : Part) → PartSays s 0 (context_object s 0) q → (v a : ℕ) → q ≡ Part.Is v a → (p : Part)
@@ -135,7 +135,7 @@ module _ (s : List ℕ) (low high p l : ℕ) (some : l ≡ 0 → ⊥) (four : l 
     unfolding number_rule
     rule_none a c = rw (ne_eqb l 0 some, le-ltb 4 l four, ← e, h, ← f, le-ltb v low a, le-ltb high v c)
 
-pub ruleset number-rules = (rule_long, rule_low, rule_high, rule_none)
+pub ruleset number_rules = (rule_long, rule_low, rule_high, rule_none)
 
 -- a number that breaks no rule
 module _ (s : List ℕ) (low high p l x : ℕ) (k : x ≡ number_rule s low high (rec 0 0 0 0 p l)) (h : x ≤ 0) where

@@ -1,6 +1,6 @@
 -- What the layouts share: a part of a service is read off the records of the parameters, left to right, and the rest goes on.
 -- "40: the next item is missing or not of the wanted kind and number. 41: wrong length, a longer form than needed, or out of range."
-use Rattle.std.specs.Prelude.{ℕ, ◌-◌, ◌/◌, ◌%◌, Bool, true, false, List, [], ◌∷◌, length, ltb, eqb}
+use Rattle.std.specs.Prelude.{ℕ, ◌-◌, ◌/◌, ◌%◌, Bool, true, false, List, [], ◌∷◌, ltb, eqb}
 use Rattle.octets.specs.Choice.{pick, both, non}
 use Rattle.octets.specs.Reading.{oct, refuse}
 use Rattle.octets.specs.Numbers.{value_at, long_form}

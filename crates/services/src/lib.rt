@@ -12,7 +12,7 @@ ghost use Rattle.services.specs.Places.{Answers};
 use items::Tally;
 
 // What ReadProperty and WriteProperty point at: an object, a property and, where `indexed`, an array index (0 where it is absent).
-#[derive(Drop)]
+#[derive(Clone, Copy)]
 pub struct Target {
     pub object: u16,
     pub instance: u32,
@@ -22,20 +22,20 @@ pub struct Target {
 }
 
 // A value: where its octets stand in the parameters.
-#[derive(Drop)]
+#[derive(Clone, Copy)]
 pub struct Span {
     pub at: usize,
     pub len: usize,
 }
 
-#[derive(Drop)]
+#[derive(Clone, Copy)]
 pub struct ReadAck {
     pub target: Target,
     pub value: Span,
 }
 
 // `ranked`: the priority is present.
-#[derive(Drop)]
+#[derive(Clone, Copy)]
 pub struct WriteRequest {
     pub target: Target,
     pub value: Span,
@@ -44,14 +44,14 @@ pub struct WriteRequest {
 }
 
 // `limited`: both limits are present.
-#[derive(Drop)]
+#[derive(Clone, Copy)]
 pub struct WhoIs {
     pub limited: bool,
     pub low: u32,
     pub high: u32,
 }
 
-#[derive(Drop)]
+#[derive(Clone, Copy)]
 pub struct IAm {
     pub instance: u32,
     pub longest: u32,
@@ -59,13 +59,13 @@ pub struct IAm {
     pub vendor: u16,
 }
 
-#[derive(Drop)]
+#[derive(Clone, Copy)]
 pub struct Fault {
     pub class: u32,
     pub code: u32,
 }
 
-#[derive(Drop)]
+#[derive(Clone, Copy)]
 pub enum Service {
     ReadProperty(Target),
     ReadPropertyAck(ReadAck),
@@ -76,7 +76,7 @@ pub enum Service {
 }
 
 // What reading a service answers: the service with its own fields, or the number of the refusal.
-#[derive(Drop)]
+#[derive(Clone, Copy)]
 pub enum Answer {
     Good(Service),
     Refused(u8),
