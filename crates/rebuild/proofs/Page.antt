@@ -1,5 +1,5 @@
 -- The laws of rebuilding for the page's key, four slots and an area of 65,536 octets.
-use Rattle.std.proofs.Common.{◌≡◌, ℕ, ◌+◌, ◌*◌, ◌<◌, ◌≤◌, true, false, eqb, List, length, sym, refl, ◌∙◌, arith, eq-eqb, eqb-true}
+use Rattle.std.proofs.Common.{◌≡◌, ℕ, ◌+◌, ◌*◌, ◌<◌, ◌≤◌, true, false, eqb, List, length, sym, refl, ◌∙◌, eq-eqb, eqb-true}
 use Rattle.octets.specs.Choice.{non, pick_case, both_left, both_true, both_false, true_both}
 use Rattle.octets.specs.Splice.{splice_length}
 use Rattle.npdu.specs.Address.{absent, same_address}

@@ -14,7 +14,6 @@ use Rattle.messages.proofs.Sound.{sound_over, sound_strange, sound_twice, sound_
 use Rattle.rebuild.specs.View.{same_key, given_key, keys, free_slot, seen, view, segment_of, found}
 use Rattle.rebuild.specs.Calls.{Gives, taking, Forgets}
 use Rattle.rebuild.specs.declared.Key.{Key}
-use Rattle.rebuild.specs.declared.Slot.{Slot}
 use Rattle.rebuild.specs.declared.Slots.{Slots}
 use Rattle.rebuild.specs.declared.Segment.{Segment}
 use Rattle.rebuild.specs.declared.Step.TheVariants.{Refused, Held, Complete}

@@ -14,7 +14,7 @@ use npdu::Address;
 
 // The key: MS/TP source, MS/TP destination, PDU type, invoke ID, and where the network header says that it comes from (SNET, SADR) and goes to (DNET, DADR).
 #[repr(C)]
-#[derive(Drop)]
+#[derive(Clone, Copy)]
 pub struct Key {
     pub source: u8,
     pub destination: u8,
@@ -26,7 +26,7 @@ pub struct Key {
 
 // A slot's record: the number that must come next, the service choice, the octets held. A free slot is all zero.
 #[repr(C)]
-#[derive(Drop)]
+#[derive(Clone, Copy)]
 pub struct Slot {
     pub used: bool,
     pub key: Key,
@@ -53,7 +53,7 @@ impl Slot {
 }
 
 #[repr(C)]
-#[derive(Drop)]
+#[derive(Clone, Copy)]
 pub struct Slots {
     pub slots: [Slot; 4],
 }
@@ -72,7 +72,7 @@ impl Slots {
 }
 
 // A segment but for its parameters.
-#[derive(Drop)]
+#[derive(Clone, Copy)]
 pub struct Segment {
     pub key: Key,
     pub number: u8,
@@ -81,26 +81,27 @@ pub struct Segment {
 }
 
 // Refused with a number; or held in a slot, or complete there, with the octets so far.
-#[derive(Drop)]
+#[derive(Clone, Copy)]
 pub enum Step {
     Refused(u8),
     Held(u8, u16),
     Complete(u8, u16),
 }
 
-#[derive(Drop)]
+#[derive(Clone, Copy)]
 pub struct Taken {
     pub answer: Step,
     pub slots: Slots,
 }
 
-#[derive(Drop)]
+#[derive(Clone, Copy)]
 pub struct Forgot {
     pub number: u8,
     pub slots: Slots,
 }
 
 // A segment: its parameters are laid in the lent message area, which is 65,536 octets or refused with 60.
+#[tactic(auto, using(crate::proofs::Ways::found_here, crate::proofs::Ways::takes_60, crate::proofs::Ways::takes_new, crate::proofs::Ways::takes_open))]
 pub fn take(slots: Slots, g: Segment, octets: &[u8], area: &mut [u8]) -> Taken
     ensures { Gives (taking slots g octets.now area.old) result area.new }
 {
@@ -115,6 +116,7 @@ pub fn take(slots: Slots, g: Segment, octets: &[u8], area: &mut [u8]) -> Taken
 }
 
 // A forget order: 0 and the slot is free, or 56 and nothing changes.
+#[tactic(auto, using(crate::proofs::Ways::forget_free, crate::proofs::Ways::forget_open))]
 pub fn forget(slots: Slots, s: u8) -> Forgot
     ensures { Forgets slots s result }
 {
@@ -140,6 +142,7 @@ pub fn forget(slots: Slots, s: u8) -> Forgot
 }
 
 // 59's part for slots: none holds over 16,384, open slots' keys are given, no two open slots have one key.
+#[tactic(auto, using(crate::proofs::Ways::passing_on, crate::proofs::Ways::sound_all, crate::proofs::Ways::unsound_held, crate::proofs::Ways::unsound_key, crate::proofs::Ways::unsound_twice))]
 pub fn sound(slots: Slots) -> bool
     ensures { result ≡ passes keys 4 (view slots) }
 {

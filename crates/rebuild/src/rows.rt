@@ -42,6 +42,7 @@ fn lost(t: Slots, s: usize, n: u8) -> Taken
 }
 
 // Whether a segment with this number starts its key's message, or starts it anew: number 0 does, but where the key is open and 0 must come next.
+#[tactic(auto, using(crate::proofs::Ways::starts_anew, crate::proofs::Ways::starts_not, crate::proofs::Ways::starts_shut))]
 fn starts(number: u8, is_open: bool, next: u8) -> bool
     ensures { result ≡ Rules.starts_at number is_open next }
 {
@@ -55,6 +56,7 @@ fn starts(number: u8, is_open: bool, next: u8) -> bool
 }
 
 // The segment laid in slot s behind n octets: held there, or complete and the slot freed.
+#[tactic(auto, using(crate::proofs::Ways::settles_last, crate::proofs::Ways::settles_more))]
 fn settle(t: Slots, s: usize, n: usize, g: Segment, octets: &[u8], area: &mut [u8]) -> Taken
     requires { Fits s n octets.now area.old }
     ensures { Gives (Rules.settle keys (segment_of g octets.now) s n (boxed (view t) area.old)) result area.new }
@@ -84,6 +86,7 @@ fn settle(t: Slots, s: usize, n: usize, g: Segment, octets: &[u8], area: &mut [u
 }
 
 // 54 frees the key's slot s, where n octets stand before the segment's; else it is laid there.
+#[tactic(auto, using(crate::proofs::Ways::fits_54, crate::proofs::Ways::fits_on))]
 fn fitted(t: Slots, s: usize, n: usize, g: Segment, octets: &[u8], area: &mut [u8]) -> Taken
     requires { (s < 4) × ((n ≤ 65535) × (length area.old ≡ 65536)) }
     ensures { Gives (Rules.fitted keys (segment_of g octets.now) (some s) n (boxed (view t) area.old)) result area.new }
@@ -95,6 +98,7 @@ fn fitted(t: Slots, s: usize, n: usize, g: Segment, octets: &[u8], area: &mut [u
 }
 
 // A segment of a key that is open in slot s.
+#[tactic(auto, using(crate::proofs::Ways::opens_52, crate::proofs::Ways::opens_53, crate::proofs::Ways::opens_anew, crate::proofs::Ways::opens_on))]
 pub fn take_open(t: Slots, s: usize, g: Segment, octets: &[u8], area: &mut [u8]) -> Taken
     requires { (s < 4) × (length area.old ≡ 65536) }
     ensures { Gives (Rules.rows keys (segment_of g octets.now) (some s) (slot_at keys (view t) s) (boxed (view t) area.old)) result area.new }
@@ -114,6 +118,7 @@ pub fn take_open(t: Slots, s: usize, g: Segment, octets: &[u8], area: &mut [u8])
 }
 
 // A segment of a key that is not open.
+#[tactic(auto, using(crate::proofs::Ways::found_here, crate::proofs::Ways::news_50, crate::proofs::Ways::news_51, crate::proofs::Ways::news_54, crate::proofs::Ways::news_settles))]
 pub fn take_new(t: Slots, g: Segment, octets: &[u8], area: &mut [u8]) -> Taken
     requires { length area.old ≡ 65536 }
     ensures { Gives (Rules.rows keys (segment_of g octets.now) none (empty keys) (boxed (view t) area.old)) result area.new }

@@ -8,14 +8,15 @@ use crate::{Key, Slot, Slots};
 use npdu::addresses;
 
 // A slot's number, or none.
-#[derive(Drop)]
+#[derive(Clone, Copy)]
 pub enum Found {
     At(usize),
     Nothing,
 }
 
 // Where keys are compared by value: the invoke ID first, since keys differ most there, and the addresses last.
-pub fn same_key_lem(a: Key, b: Key) -> bool
+#[tactic(auto, using(crate::proofs::Ways::other_ends, crate::proofs::Ways::same_ends, octets::specs::Rules::tests), unfolding(crate::specs::View::same_key))]
+pub fn same_key(a: Key, b: Key) -> bool
     ensures { result ≡ same_key a b }
 {
     if a.invoke != b.invoke {
@@ -41,6 +42,7 @@ pub fn same_key_lem(a: Key, b: Key) -> bool
 }
 
 // Whether a slot is open and has the key.
+#[tactic(auto, using(crate::proofs::Ways::closed_to, crate::proofs::Ways::opened_to))]
 fn open_to(x: Slot, k: Key) -> bool
     ensures { result ≡ open_to keys k (seen x) }
 {
@@ -49,10 +51,11 @@ fn open_to(x: Slot, k: Key) -> bool
         return false;
     }
     let y = x.key;
-    same_key_lem(y, k)
+    same_key(y, k)
 }
 
 // The lowest slot from a place on that is open and has the key.
+#[tactic(auto, using(crate::proofs::Ways::looks_here, crate::proofs::Ways::looks_on, crate::proofs::Ways::looks_past))]
 pub fn open_slot(t: Slots, k: Key, start: usize) -> Found
     requires { start ≤ 4 }
     ensures { result ≡ found start (lowest (open_to keys k) (drop start (view t))) }
@@ -72,6 +75,7 @@ pub fn open_slot(t: Slots, k: Key, start: usize) -> Found
 }
 
 // "the search stops at the lowest free slot"
+#[tactic(auto, using(crate::proofs::Ways::free_here, crate::proofs::Ways::free_on, crate::proofs::Ways::free_past))]
 pub fn lowest_free(t: Slots) -> Found
     ensures { result ≡ found 0 (lowest (is_free keys) (view t)) }
 {
@@ -91,6 +95,7 @@ pub fn lowest_free(t: Slots) -> Found
 }
 
 // Whether a header gives both addresses of the key.
+#[tactic(auto, using(crate::proofs::Ways::given_by, crate::proofs::Ways::not_given))]
 fn key_given(k: Key) -> bool
     ensures { result ≡ given_key k }
 {
@@ -103,6 +108,7 @@ fn key_given(k: Key) -> bool
 }
 
 // Whether a slot is open with a key that no header gives.
+#[tactic(auto, using(crate::proofs::Ways::strange_free, crate::proofs::Ways::strange_here, crate::proofs::Ways::strange_not))]
 pub fn strange(x: Slot) -> bool
     ensures { result ≡ Sound.strange keys (seen x) }
 {
@@ -118,6 +124,7 @@ pub fn strange(x: Slot) -> bool
 }
 
 // Whether slot s is open and a later open slot has its key. (A loop of its own, and not `open_slot`: the slots stay where they are, and keys with other invoke IDs are passed at once.)
+#[tactic(auto, using(crate::proofs::Ways::once_free))]
 pub fn twice(t: Slots, s: usize) -> bool
     requires { s < 4 }
     ensures { result ≡ Sound.twice keys (slot_at keys (view t) s) (drop (s + 1) (view t)) }
