@@ -14,7 +14,7 @@ mod judge; // judge.rt: what is refused, and the number of segments
 mod laying; // laying.rt: the segments, one after the other
 
 // A confirmed request that is to be cut: its fields but SEG, MOR, number and window.
-#[derive(Drop)]
+#[derive(Clone, Copy)]
 pub struct WholeRequest {
     pub sa: bool,
     pub size: u8,
@@ -24,21 +24,21 @@ pub struct WholeRequest {
 }
 
 // A complex ack that is to be cut.
-#[derive(Drop)]
+#[derive(Clone, Copy)]
 pub struct WholeAck {
     pub invoke: u8,
     pub choice: u8,
 }
 
 // The two PDUs that have segments.
-#[derive(Drop)]
+#[derive(Clone, Copy)]
 pub enum Message {
     Request(WholeRequest),
     ComplexAck(WholeAck),
 }
 
 // How it is cut: reply expected and priority of the network header, the window, and the parameter octets of a segment.
-#[derive(Drop)]
+#[derive(Clone, Copy)]
 pub struct Way {
     pub reply: bool,
     pub priority: u8,
