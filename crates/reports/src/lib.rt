@@ -9,7 +9,7 @@ ghost use Rattle.reports.specs.Kinds.{other_frame, damaged, unsegmented, segment
 pub const SIZE: usize = 16;
 
 // What a report says of its frame: type, destination and source.
-#[derive(Drop)]
+#[derive(Clone, Copy)]
 pub struct Frame {
     pub kind: u8,
     pub destination: u8,
@@ -26,7 +26,7 @@ impl Frame {
 }
 
 // What a report says of an APDU: its first octet, invoke ID and service choice.
-#[derive(Drop)]
+#[derive(Clone, Copy)]
 pub struct Apdu {
     pub first: u8,
     pub invoke: u8,
@@ -42,7 +42,7 @@ impl Apdu {
 }
 
 // All that a report says; what its kind or PDU lacks is 0.
-#[derive(Drop)]
+#[derive(Clone, Copy)]
 pub struct Report {
     pub kind: u8,
     pub number: u8,
