@@ -9,7 +9,7 @@ use lib.ListN.{length, take, drop, length-append}
 use lib.Dec.{ltb}
 use borrow.Author.Tests.{lt-ltb, ltb-true}
 use Rattle.octets.specs.Choice.{impossible}
-use Rattle.tags.specs.Types.{longest, most}
+use Rattle.tags.specs.Types.{longest}
 use Rattle.tags.specs.Layout.{Thing, encode, contents_of, number_octets, length_octets, high_bits, low_bits}
 use Rattle.tags.specs.Layout.Thing.{application, boolean, context, opening, closing}
 use Rattle.items.specs.Records.{Rec, thing_of}

@@ -12,7 +12,6 @@ use Rattle.octets.specs.Choice.{pick, pick_so, pick_case, both_true}
 use Rattle.octets.specs.Reading.{Octets}
 use Rattle.items.specs.Records.{Rec, things_of}
 use Rattle.items.specs.Reading.{most_items}
-use Rattle.items.specs.Reading.Out.{good}
 use Rattle.items.specs.Grammar.{Grammar, encode_all, records_from}
 use Rattle.items.proofs.Exact.{written, reads, records_named}
 use Rattle.item_judge.specs.Judge.{records_in, good_from, good_records, write_fault}

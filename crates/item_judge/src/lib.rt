@@ -10,14 +10,14 @@ ghost use Rattle.std.specs.Prelude.{◌≡◌, ◌/◌, ◌%◌, ◌≤◌, leng
 ghost use Rattle.item_judge.specs.Judge.{judged};
 
 // What judging answers: the octets that the items take, or the number of the refusal.
-#[derive(Drop)]
+#[derive(Clone, Copy)]
 pub enum Judged {
     Takes(usize),
     Refused(u8),
 }
 
 // A record of an item to write: its kind, number, depth, value, and the place and the length of its contents.
-#[derive(Drop)]
+#[derive(Clone, Copy)]
 pub struct Record {
     pub kind: u8,
     pub number: u8,
@@ -28,7 +28,7 @@ pub struct Record {
 }
 
 // The numbers of the open groups, the innermost last, and how many there are.
-#[derive(Drop)]
+#[derive(Clone, Copy)]
 pub struct Groups {
     pub numbers: [u8; 16],
     pub depth: usize,
