@@ -5,7 +5,7 @@ ghost use Rattle.records.specs.Service.{pointing, plain, low32, fields_of, field
 use services::{Fault, IAm, ReadAck, Service, Span, Target, WhoIs, WriteRequest};
 
 // What stands at the record's places, whichever service it is of.
-#[derive(Drop)]
+#[derive(Clone, Copy)]
 pub struct Fields {
     pub sort: u8,
     pub mark: u8,
