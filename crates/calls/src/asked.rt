@@ -60,45 +60,45 @@ fn size(k: u8, s: &[u8]) -> usize {
 }
 
 // The number that the call gives back.
-fn number(k: u8, n: usize) {
+fn number(rt: &impl Print, k: u8, n: usize) {
     match k {
-        0 | 2 | 5 | 6 => print::named(b" next ", n),
-        4 => print::named(b" count ", n),
+        0 | 2 | 5 | 6 => print::named(rt, b" next ", n),
+        4 => print::named(rt, b" count ", n),
         9 => {}
-        _ => print::named(b" wrote ", n),
+        _ => print::named(rt, b" wrote ", n),
     }
 }
 
 // The area that it was lent.
-fn area(k: u8, out: &[u8]) {
+fn area(rt: &impl Print, k: u8, out: &[u8]) {
     match k {
-        0 | 2 | 6 | 9 => print::area(b"  record", out),
-        4 => print::area(b"  records", out),
+        0 | 2 | 6 | 9 => print::area(rt, b"  record", out),
+        4 => print::area(rt, b"  records", out),
         5 => {}
-        _ => print::area(b"  out", out),
+        _ => print::area(rt, b"  out", out),
     }
 }
 
-fn tell(k: u8, r: u8, n: usize, out: &[u8]) {
-    print::start(r);
-    number(k, n);
-    print::end();
-    area(k, out);
+fn tell(rt: &impl Print, k: u8, r: u8, n: usize, out: &[u8]) {
+    print::start(rt, r);
+    number(rt, k, n);
+    print::end(rt);
+    area(rt, k, out);
 }
 
 // With the line's octets.
-fn lent(k: u8, s: &[u8], one: &[u8], two: &[u8]) {
+fn lent(rt: &impl Print, k: u8, s: &[u8], one: &[u8], two: &[u8]) {
     let mut out = areas::output();
     let mut n: usize = 99;
     let m = size(k, s);
     let r = made(k, s, one, two, text::front(&mut out, m), &mut n);
-    tell(k, r, n, show::part(&out, 0, m));
+    tell(rt, k, r, n, show::part(&out, 0, m));
 }
 
-pub fn line(k: u8, s: &[u8]) {
+pub fn line(rt: &impl Print, k: u8, s: &[u8]) {
     let mut one = areas::input();
     let mut two = areas::input();
     let n = text::group(s, &mut one);
     let m = text::group2(s, &mut two);
-    lent(k, s, show::part(&one, 0, n), show::part(&two, 0, m));
+    lent(rt, k, s, show::part(&one, 0, n), show::part(&two, 0, m));
 }

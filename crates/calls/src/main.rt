@@ -15,6 +15,9 @@ mod text;
 mod trunk;
 mod writers;
 
+ghost use Rattle.std.specs.Prelude.{◌≤◌, length};
+
+use std::io::Read;
 use trunk::Sizes;
 
 // The number of the line's name: 0 to 9 are asked.rt's, 10 to 14 checks.rt's, 15 to 25 trunk.rt's, 26 and 27 writers.rt's; above where it is none of these.
@@ -26,41 +29,54 @@ fn name(s: &[u8]) -> u8 {
 }
 
 // What the line gives.
-fn answer(k: u8, s: &[u8], z: Sizes, state: &mut [u8; 700], area: &mut [u8; 65537]) -> Sizes {
+fn answer(
+    rt: &impl Print,
+    k: u8,
+    s: &[u8],
+    z: Sizes,
+    state: &mut [u8; 700],
+    area: &mut [u8; 65537],
+) -> Sizes {
     if k < 10 {
-        asked::line(k, s);
+        asked::line(rt, k, s);
         return z;
     }
     if k < 15 {
-        checks::line(k, s);
+        checks::line(rt, k, s);
         return z;
     }
     if k < 26 {
-        return trunk::line(k, s, z, state, area);
+        return trunk::line(rt, k, s, z, state, area);
     }
     if k < 28 {
-        writers::line(k, s);
+        writers::line(rt, k, s);
         return z;
     }
-    show::text(b"  ?\n");
+    show::text(rt, b"  ?\n");
     z
 }
 
 // The line, and what it gives; nothing where it is a heading.
-fn line(s: &[u8], z: Sizes, state: &mut [u8; 700], area: &mut [u8; 65537]) -> Sizes {
-    show::text(s);
-    print::end();
+fn line(
+    rt: &impl Print,
+    s: &[u8],
+    z: Sizes,
+    state: &mut [u8; 700],
+    area: &mut [u8; 65537],
+) -> Sizes {
+    show::text(rt, s);
+    print::end(rt);
     if text::at(s, 0) == b'#' {
         return z;
     }
     if s.len() == 0 {
         return z;
     }
-    answer(name(s), s, z, state, area)
+    answer(rt, name(s), s, z, state, area)
 }
 
 // How much of the next line came so far, and the areas' sizes.
-#[derive(Drop)]
+#[derive(Clone, Copy)]
 struct Place {
     held: usize,
     sizes: Sizes,
@@ -68,6 +84,7 @@ struct Place {
 
 // One more octet of the text: a line's end, or an octet of it.
 fn octet(
+    rt: &impl Print,
     x: u8,
     p: Place,
     held: &mut [u8; 65536],
@@ -76,7 +93,7 @@ fn octet(
 ) -> Place {
     let z = p.sizes;
     if x == b'\n' {
-        let next = line(show::part(held, 0, p.held), z, state, area);
+        let next = line(rt, show::part(held, 0, p.held), z, state, area);
         return Place {
             held: 0,
             sizes: next,
@@ -87,6 +104,7 @@ fn octet(
 }
 
 fn piece(
+    rt: &impl Print,
     s: &[u8],
     p: Place,
     held: &mut [u8; 65536],
@@ -96,21 +114,48 @@ fn piece(
     let mut now = p;
     let mut i = 0;
     while i < s.len() {
-        now = octet(s[i], now, held, state, area);
+        now = octet(rt, s[i], now, held, state, area);
         i += 1;
     }
     now
 }
 
+// What is read into an area until it is full or no more comes; how much that is.
+fn full<R: Read>(input: &mut R, buf: &mut [u8]) -> usize
+    ensures { result ≤ length buf.new }
+{
+    let mut done = 0;
+    while done < buf.len() {
+        match input.read(&mut buf[done..]) {
+            Ok(0) | Err(_) => return done,
+            Ok(n) => done += n,
+        }
+    }
+    done
+}
+
 // One read.
-fn some(p: Place, held: &mut [u8; 65536], state: &mut [u8; 700], area: &mut [u8; 65537]) -> Place {
-    let mut text = io::large_buffer();
-    let n = io::read_full(libc::STDIN_FILENO, &mut text);
-    piece(show::part(&text, 0, n), p, held, state, area)
+fn some<R: Read>(
+    rt: &impl Print,
+    input: &mut R,
+    p: Place,
+    held: &mut [u8; 65536],
+    state: &mut [u8; 700],
+    area: &mut [u8; 65537],
+) -> Place {
+    let mut text = [0u8; 65536];
+    let n = full(input, &mut text);
+    piece(rt, show::part(&text, 0, n), p, held, state, area)
 }
 
 // The text, up to 4 MiB. At first the state area has no octets, and the message area has 65,536.
-fn all(held: &mut [u8; 65536], state: &mut [u8; 700], area: &mut [u8; 65537]) {
+fn all<R: Read>(
+    rt: &impl Print,
+    input: &mut R,
+    held: &mut [u8; 65536],
+    state: &mut [u8; 700],
+    area: &mut [u8; 65537],
+) {
     let sizes = Sizes {
         state: 0,
         area: 65536,
@@ -118,15 +163,15 @@ fn all(held: &mut [u8; 65536], state: &mut [u8; 700], area: &mut [u8; 65537]) {
     let mut p = Place { held: 0, sizes };
     let mut left: usize = 64;
     while 0 < left {
-        p = some(p, held, state, area);
+        p = some(rt, input, p, held, state, area);
         left -= 1;
     }
 }
 
-fn main() {
-    let mut held = io::large_buffer();
+fn main(rt: HostRuntime) {
+    let mut held = [0u8; 65536];
     let mut state = [0u8; 700];
     let mut area = areas::output();
     text::fill(&mut area, 0, 0, 65537);
-    all(&mut held, &mut state, &mut area);
+    all(&rt, &mut rt.reader(), &mut held, &mut state, &mut area);
 }

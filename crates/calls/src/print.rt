@@ -1,24 +1,22 @@
 // What is printed of an answer: its numbers, and each area whole.
-use libc::STDOUT_FILENO;
-
-pub fn number(n: usize) {
-    io::print_decimal(STDOUT_FILENO, n as u64);
+pub fn number(rt: &impl Print, n: usize) {
+    let _ = rt.print(n);
 }
 
 // The answer.
-pub fn start(r: u8) {
-    show::text(b"  ");
-    number(r as usize);
+pub fn start(rt: &impl Print, r: u8) {
+    show::text(rt, b"  ");
+    number(rt, r as usize);
 }
 
 // A number behind its name.
-pub fn named(name: &[u8], n: usize) {
-    show::text(name);
-    number(n);
+pub fn named(rt: &impl Print, name: &[u8], n: usize) {
+    show::text(rt, name);
+    number(rt, n);
 }
 
-pub fn end() {
-    show::text(b"\n");
+pub fn end(rt: &impl Print) {
+    show::text(rt, b"\n");
 }
 
 // Where the equal octets from a place on end.
@@ -43,27 +41,27 @@ fn run(s: &[u8], from: usize) -> usize {
 }
 
 // The word for so many times the octet.
-fn word(x: u8, n: usize) {
-    show::text(b" ");
-    show::octet(x);
+fn word(rt: &impl Print, x: u8, n: usize) {
+    show::text(rt, b" ");
+    show::octet(rt, x);
     if 1 < n {
-        show::text(b"*");
-        number(n);
+        show::text(rt, b"*");
+        number(rt, n);
     }
 }
 
 // An area's name and its octets.
-pub fn area(name: &[u8], s: &[u8]) {
-    show::text(name);
+pub fn area(rt: &impl Print, name: &[u8], s: &[u8]) {
+    show::text(rt, name);
     let mut i = 0;
     let mut left = s.len();
     while 0 < left {
         if i < s.len() {
             let n = run(s, i);
-            word(s[i], n);
+            word(rt, s[i], n);
             i = std::num::wrapping_add_usize(i, n);
         }
         left -= 1;
     }
-    show::text(b"\n");
+    show::text(rt, b"\n");
 }

@@ -1,5 +1,5 @@
 // A line of the text: its name, its numbers, its groups of octets.
-ghost use Rattle.io.specs.Counts.{IsPrefixLen};
+ghost use Rattle.std.specs.Prelude.{◌≡◌, ◌≤◌, length, take};
 
 // The octet at a place, 0 where there is none.
 pub fn at(s: &[u8], i: usize) -> u8 {
@@ -206,7 +206,7 @@ pub fn group2(s: &[u8], out: &mut [u8]) -> usize {
 
 // So many octets of an area, or all where it has no more.
 pub fn within(s: &[u8], n: usize) -> usize
-    ensures { IsPrefixLen result s.now }
+    ensures { (result ≤ length s.now) × (result ≡ length (take result s.now)) }
 {
     if n <= s.len() {
         return n;

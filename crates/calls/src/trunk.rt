@@ -3,7 +3,7 @@ use crate::{areas, print, text};
 use hitchbarley::{replay_calls, trunk_calls, writer_calls};
 
 // How many octets of the two areas are lent.
-#[derive(Drop)]
+#[derive(Clone, Copy)]
 pub struct Sizes {
     pub state: usize,
     pub area: usize,
@@ -19,20 +19,20 @@ fn set_area(s: &[u8], area: &mut [u8]) -> usize {
 }
 
 // fresh: the state area's size.
-fn fresh(size: usize, later: u8, state: &mut [u8]) -> usize {
+fn fresh(rt: &impl Print, size: usize, later: u8, state: &mut [u8]) -> usize {
     text::fill(state, 0, 0xEE, size);
     let n = text::within(state, size);
-    print::start(trunk_calls::hb_fresh(&mut state[..n], later));
-    print::end();
-    print::area(b"  state", show::part(state, 0, n));
+    print::start(rt, trunk_calls::hb_fresh(&mut state[..n], later));
+    print::end(rt);
+    print::area(rt, b"  state", show::part(state, 0, n));
     n
 }
 
 // The sizes after a line that sets an area.
-fn set(k: u8, s: &[u8], z: Sizes, state: &mut [u8], area: &mut [u8]) -> Sizes {
+fn set(rt: &impl Print, k: u8, s: &[u8], z: Sizes, state: &mut [u8], area: &mut [u8]) -> Sizes {
     if k == 15 {
         return Sizes {
-            state: fresh(text::first(s), text::edition(s), state),
+            state: fresh(rt, text::first(s), text::edition(s), state),
             area: z.area,
         };
     }
@@ -48,21 +48,21 @@ fn set(k: u8, s: &[u8], z: Sizes, state: &mut [u8], area: &mut [u8]) -> Sizes {
     }
 }
 
-fn reported_end(reported: u8, report: &[u8]) {
-    print::named(b" reported ", reported as usize);
-    print::end();
-    print::area(b"  report", report);
+fn reported_end(rt: &impl Print, reported: u8, report: &[u8]) {
+    print::named(rt, b" reported ", reported as usize);
+    print::end(rt);
+    print::area(rt, b"  report", report);
 }
 
 // What a piece of octets or of records answered.
-fn eaten_end(r: u8, eaten: usize, reported: u8, report: &[u8]) {
-    print::start(r);
-    print::named(b" eaten ", eaten);
-    reported_end(reported, report);
+fn eaten_end(rt: &impl Print, r: u8, eaten: usize, reported: u8, report: &[u8]) {
+    print::start(rt, r);
+    print::named(rt, b" eaten ", eaten);
+    reported_end(rt, reported, report);
 }
 
 // A piece, with a report area of this size.
-fn fed(size: usize, piece: &[u8], state: &mut [u8], area: &mut [u8]) {
+fn fed(rt: &impl Print, size: usize, piece: &[u8], state: &mut [u8], area: &mut [u8]) {
     let mut report = areas::output();
     let mut eaten: usize = 99;
     let mut reported: u8 = 99;
@@ -74,11 +74,11 @@ fn fed(size: usize, piece: &[u8], state: &mut [u8], area: &mut [u8]) {
         &mut eaten,
         &mut reported,
     );
-    eaten_end(r, eaten, reported, show::part(&report, 0, size));
+    eaten_end(rt, r, eaten, reported, show::part(&report, 0, size));
 }
 
 // Records, with a report area of this size.
-fn replayed(size: usize, records: &[u8], state: &mut [u8], area: &mut [u8]) {
+fn replayed(rt: &impl Print, size: usize, records: &[u8], state: &mut [u8], area: &mut [u8]) {
     let mut report = areas::output();
     let mut eaten: usize = 99;
     let mut reported: u8 = 99;
@@ -90,7 +90,7 @@ fn replayed(size: usize, records: &[u8], state: &mut [u8], area: &mut [u8]) {
         &mut eaten,
         &mut reported,
     );
-    eaten_end(r, eaten, reported, show::part(&report, 0, size));
+    eaten_end(rt, r, eaten, reported, show::part(&report, 0, size));
 }
 
 // A frame with its checks, or nothing where its data are too many; how many octets it has.
@@ -120,32 +120,32 @@ fn piece(k: u8, s: &[u8], out: &mut [u8]) -> usize {
 }
 
 // feed, frame
-fn feed(k: u8, s: &[u8], state: &mut [u8], area: &mut [u8]) {
+fn feed(rt: &impl Print, k: u8, s: &[u8], state: &mut [u8], area: &mut [u8]) {
     let mut octets = areas::input();
     let n = piece(k, s, &mut octets);
-    fed(text::first(s), show::part(&octets, 0, n), state, area);
+    fed(rt, text::first(s), show::part(&octets, 0, n), state, area);
 }
 
 // replay
-fn replay(s: &[u8], state: &mut [u8], area: &mut [u8]) {
+fn replay(rt: &impl Print, s: &[u8], state: &mut [u8], area: &mut [u8]) {
     let mut octets = areas::input();
     let n = text::group(s, &mut octets);
-    replayed(text::first(s), show::part(&octets, 0, n), state, area);
+    replayed(rt, text::first(s), show::part(&octets, 0, n), state, area);
 }
 
 // silence
-fn silence(size: usize, state: &mut [u8]) {
+fn silence(rt: &impl Print, size: usize, state: &mut [u8]) {
     let mut report = areas::output();
     let mut reported: u8 = 99;
     let r = trunk_calls::hb_silence(state, text::front(&mut report, size), &mut reported);
-    print::start(r);
-    reported_end(reported, show::part(&report, 0, size));
+    print::start(rt, r);
+    reported_end(rt, reported, show::part(&report, 0, size));
 }
 
 // forget
-fn forget(slot: usize, state: &mut [u8]) {
-    print::start(trunk_calls::hb_forget(state, (slot % 256) as u8));
-    print::end();
+fn forget(rt: &impl Print, slot: usize, state: &mut [u8]) {
+    print::start(rt, trunk_calls::hb_forget(state, (slot % 256) as u8));
+    print::end(rt);
 }
 
 // area-at
@@ -156,32 +156,39 @@ fn lay(s: &[u8], area: &mut [u8]) {
 }
 
 // show-state, show-area, area-at
-fn shown(k: u8, s: &[u8], state: &[u8], area: &mut [u8]) {
+fn shown(rt: &impl Print, k: u8, s: &[u8], state: &[u8], area: &mut [u8]) {
     match k {
-        22 => print::area(b"  state", state),
-        23 => print::area(b"  area", area),
+        22 => print::area(rt, b"  state", state),
+        23 => print::area(rt, b"  area", area),
         _ => lay(s, area),
     }
 }
 
 // A line that leaves the areas' sizes.
-fn called(k: u8, s: &[u8], state: &mut [u8], area: &mut [u8]) {
+fn called(rt: &impl Print, k: u8, s: &[u8], state: &mut [u8], area: &mut [u8]) {
     match k {
-        18 => silence(text::first(s), state),
-        19 => forget(text::first(s), state),
-        20 | 21 => feed(k, s, state, area),
-        25 => replay(s, state, area),
-        _ => shown(k, s, state, area),
+        18 => silence(rt, text::first(s), state),
+        19 => forget(rt, text::first(s), state),
+        20 | 21 => feed(rt, k, s, state, area),
+        25 => replay(rt, s, state, area),
+        _ => shown(rt, k, s, state, area),
     }
 }
 
 // The areas' sizes after the line.
-pub fn line(k: u8, s: &[u8], z: Sizes, state: &mut [u8], area: &mut [u8]) -> Sizes {
+pub fn line(
+    rt: &impl Print,
+    k: u8,
+    s: &[u8],
+    z: Sizes,
+    state: &mut [u8],
+    area: &mut [u8],
+) -> Sizes {
     if k < 18 {
-        return set(k, s, z, state, area);
+        return set(rt, k, s, z, state, area);
     }
     let n = text::within(state, z.state);
     let m = text::within(area, z.area);
-    called(k, s, &mut state[..n], &mut area[..m]);
+    called(rt, k, s, &mut state[..n], &mut area[..m]);
     z
 }

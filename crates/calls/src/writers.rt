@@ -7,19 +7,19 @@ fn octet(n: usize) -> u8 {
 }
 
 // The answer, and the octets written.
-fn start(r: u8, wrote: usize) {
-    print::start(r);
-    print::named(b" wrote ", wrote);
+fn start(rt: &impl Print, r: u8, wrote: usize) {
+    print::start(rt, r);
+    print::named(rt, b" wrote ", wrote);
 }
 
 // The area that was lent.
-fn end(out: &[u8]) {
-    print::end();
-    print::area(b"  out", out);
+fn end(rt: &impl Print, out: &[u8]) {
+    print::end(rt);
+    print::area(rt, b"  out", out);
 }
 
 // frame-write
-fn frame(s: &[u8], payload: &[u8]) {
+fn frame(rt: &impl Print, s: &[u8], payload: &[u8]) {
     let mut out = areas::output();
     let mut wrote: usize = 99;
     let m = text::fourth(s);
@@ -31,12 +31,12 @@ fn frame(s: &[u8], payload: &[u8]) {
         text::front(&mut out, m),
         &mut wrote,
     );
-    start(r, wrote);
-    end(show::part(&out, 0, m));
+    start(rt, r, wrote);
+    end(rt, show::part(&out, 0, m));
 }
 
 // cut
-fn cut(s: &[u8], fields: &[u8], params: &[u8]) {
+fn cut(rt: &impl Print, s: &[u8], fields: &[u8], params: &[u8]) {
     let mut out = areas::output();
     let mut wrote: usize = 99;
     let mut segments: usize = 99;
@@ -52,19 +52,19 @@ fn cut(s: &[u8], fields: &[u8], params: &[u8]) {
         &mut wrote,
         &mut segments,
     );
-    start(r, wrote);
-    print::named(b" segments ", segments);
-    end(show::part(&out, 0, m));
+    start(rt, r, wrote);
+    print::named(rt, b" segments ", segments);
+    end(rt, show::part(&out, 0, m));
 }
 
-pub fn line(k: u8, s: &[u8]) {
+pub fn line(rt: &impl Print, k: u8, s: &[u8]) {
     let mut one = areas::input();
     let mut two = areas::input();
     let n = text::group(s, &mut one);
     let m = text::group2(s, &mut two);
     if k == 26 {
-        frame(s, show::part(&one, 0, n));
+        frame(rt, s, show::part(&one, 0, n));
         return;
     }
-    cut(s, show::part(&one, 0, n), show::part(&two, 0, m));
+    cut(rt, s, show::part(&one, 0, n), show::part(&two, 0, m));
 }

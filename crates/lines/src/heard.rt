@@ -1,6 +1,6 @@
 // A report's fields (document 01: "0: kind; 1: refusal number or 0; 2 to 4: frame type, destination, source; 5: first APDU octet; 6: invoke ID;
 // 7: slot; 8 to 11: length, high octet first; 12: service choice"). A length is at most 16,384, so its high two octets are 0.
-#[derive(Drop)]
+#[derive(Clone, Copy)]
 pub struct Heard {
     pub kind: u8,
     pub number: u8,

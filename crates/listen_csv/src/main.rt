@@ -1,6 +1,6 @@
 // The listener as `listen --csv FILE`: a row for each value that was read or written.
 #![tactic(auto)]
 
-fn main() {
-    listening::run();
+fn main(rt: HostRuntime) {
+    listening::run(&rt);
 }

@@ -1,6 +1,6 @@
 // The listener as `listen --octets FILE`: each line with the 16 octets of its report.
 #![tactic(auto)]
 
-fn main() {
-    listening::run();
+fn main(rt: HostRuntime) {
+    listening::run(&rt);
 }

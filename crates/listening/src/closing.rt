@@ -1,5 +1,6 @@
 // The closing line: octets, reports by kind, and the octets that belong to no frame.
 use crate::ear::Ear;
+use crate::output;
 use words::{fill, fill_five, one, put};
 
 // Whether no frame was found, which is said.
@@ -53,14 +54,21 @@ fn text(
 }
 
 // On standard output behind the other lines; on standard error where that has a table.
-pub fn line(book: &[u8], e: Ear, table: bool, counts: &[u64; 12], out: &mut [u8; 131072]) {
+pub fn line(
+    rt: &(impl Print + Eprint),
+    book: &[u8],
+    e: Ear,
+    table: bool,
+    counts: &[u64; 12],
+    out: &mut [u8; 131072],
+) {
     if table {
-        e.flushed(out);
+        e.flushed(rt, out);
         let n = text(book, e.octets, e.framed, counts, out, 0);
-        io::write_all(libc::STDERR_FILENO, show::part(out, 0, n));
+        output::aside(rt, show::part(out, 0, n));
         return;
     }
     let mut f = e;
     f.at = text(book, e.octets, e.framed, counts, out, e.at);
-    f.flushed(out);
+    f.flushed(rt, out);
 }

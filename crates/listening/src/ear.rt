@@ -8,7 +8,7 @@ use rebuild::Slots;
 
 // `edition`: chosen once, for the whole input; `framed`: octets of frames, damaged ones too; `at`: the octets gathered for writing;
 // `more`: the last call reported, the reading goes on; `stopped`: nothing more can be written.
-#[derive(Drop)]
+#[derive(Clone, Copy)]
 pub struct Ear {
     pub edition: Edition,
     pub link: Link,
@@ -40,12 +40,12 @@ impl Ear {
     }
 
     // What is gathered is written out, and the reading goes on.
-    pub fn flushed(self, out: &[u8; 131072]) -> Ear {
+    pub fn flushed(self, rt: &(impl Print + Eprint), out: &[u8; 131072]) -> Ear {
         if self.stopped {
             return self;
         }
         let e = self.going(true);
-        e.wrote(output::flush(e.at, out))
+        e.wrote(output::flush(rt, e.at, out))
     }
 }
 

@@ -9,12 +9,16 @@ pub mod wish;
 
 use ear::Ear;
 use output::Gathered;
+use std::env::Env;
+use std::fs::Files;
+use std::io::Read;
 use values::table::Told;
 use wish::Wish;
 
 // The line or the rows of a report. `records`: an area for the records of a value's items, 12 octets each: for as many items as all parameters that
 // are read may have, 2,048.
 fn tell(
+    rt: &(impl Print + Eprint),
     book: &[u8],
     w: Wish,
     heard: u64,
@@ -27,16 +31,17 @@ fn tell(
 ) -> Gathered {
     if w.csv {
         if lines::table::carries(report) {
-            return rows(book, heard, report, store, area, records, out, at);
+            return rows(rt, book, heard, report, store, area, records, out, at);
         }
         return output::so_far(at);
     }
     let a = lines::line(book, heard, report, store, area, records, w.octets, out, at);
-    output::when_full(a, out)
+    output::when_full(rt, a, out)
 }
 
 // The rows of a report; where the area is full it is written out, and the rows go on: with an item a turn, so no more turns than items are needed.
 fn rows(
+    rt: &(impl Print + Eprint),
     book: &[u8],
     heard: u64,
     report: &[u8; 16],
@@ -51,7 +56,7 @@ fn rows(
     let mut left: usize = 2049;
     while 0 < left {
         let t = lines::table::rows(book, heard, report, store, area, from, records, out, g.at);
-        g = output::when_full(t.at, out);
+        g = output::when_full(rt, t.at, out);
         if !t.more || g.stopped {
             return g;
         }
@@ -63,6 +68,7 @@ fn rows(
 
 // What one call eats of a piece from a place on, and what is told of it.
 fn turn(
+    rt: &(impl Print + Eprint),
     book: &[u8],
     e: Ear,
     w: Wish,
@@ -76,13 +82,16 @@ fn turn(
     let mut report = [0u8; 16];
     let f = ear::feed(e, rest, store, &mut report, area, counts);
     if f.more {
-        return f.wrote(tell(book, w, f.octets, &report, store, area, records, out, f.at));
+        return f.wrote(tell(
+            rt, book, w, f.octets, &report, store, area, records, out, f.at,
+        ));
     }
     f
 }
 
 // A piece: what a call leaves after a report is offered again. Each report eats an octet, so no more calls than octets are needed.
 fn piece(
+    rt: &(impl Print + Eprint),
     book: &[u8],
     e: Ear,
     w: Wish,
@@ -99,6 +108,7 @@ fn piece(
     while 0 < left && now.more {
         let at = std::num::wrapping_sub_u64(now.octets, start) as usize;
         now = turn(
+            rt,
             book,
             now,
             w,
@@ -115,11 +125,12 @@ fn piece(
 }
 
 // One read; whether there is more. What was told of it is written out, so that a live trunk is seen as it speaks.
-fn some(
+fn some<R: Read>(
+    rt: &(impl Print + Eprint),
     book: &[u8],
     e: Ear,
     w: Wish,
-    fd: i32,
+    input: &mut R,
     buf: &mut [u8; 65536],
     store: &mut [u8; 501],
     area: &mut [u8; 65536],
@@ -127,15 +138,18 @@ fn some(
     records: &mut [u8; 24576],
     out: &mut [u8; 131072],
 ) -> Ear {
-    let got = libc::read(fd, buf);
-    if got <= 0 {
-        if got < 0 {
-            os::fail(b"listen: reading");
+    let n = match input.read(buf) {
+        Ok(n) => n,
+        Err(x) => {
+            let _ = eprintln!(rt; "listen: reading: {x}");
+            0
         }
+    };
+    if n == 0 {
         return e.going(false);
     }
-    let n = io::count(got, buf);
     let f = piece(
+        rt,
         book,
         e.going(true),
         w,
@@ -146,26 +160,29 @@ fn some(
         records,
         out,
     );
-    f.flushed(out)
+    f.flushed(rt, out)
 }
 
 // All of the input: the loop counts its turns down from a number that no run uses up.
-fn all(
+fn all<R: Read>(
+    rt: &(impl Print + Eprint),
     book: &[u8],
     fresh: Ear,
     w: Wish,
-    fd: i32,
+    input: &mut R,
     store: &mut [u8; 501],
     area: &mut [u8; 65536],
     counts: &mut [u64; 12],
     records: &mut [u8; 24576],
     out: &mut [u8; 131072],
 ) -> Ear {
-    let mut buf = io::large_buffer();
+    let mut buf = [0u8; 65536];
     let mut e = fresh;
     let mut turns = u64::MAX;
     while turns > 0 && e.more {
-        e = some(book, e, w, fd, &mut buf, store, area, counts, records, out);
+        e = some(
+            rt, book, e, w, input, &mut buf, store, area, counts, records, out,
+        );
         turns -= 1;
     }
     e
@@ -173,6 +190,7 @@ fn all(
 
 // The end of the input is a silence; then the closing line, which with --csv goes to standard error.
 fn end(
+    rt: &(impl Print + Eprint),
     book: &[u8],
     e: Ear,
     w: Wish,
@@ -184,11 +202,12 @@ fn end(
 ) {
     let mut report = [0u8; 16];
     let f = ear::silence(e, &mut report, counts);
-    let g = last(book, f, w, &report, store, area, records, out);
-    closing::line(book, g, w.csv, counts, out);
+    let g = last(rt, book, f, w, &report, store, area, records, out);
+    closing::line(rt, book, g, w.csv, counts, out);
 }
 
 fn last(
+    rt: &(impl Print + Eprint),
     book: &[u8],
     e: Ear,
     w: Wish,
@@ -199,23 +218,26 @@ fn last(
     out: &mut [u8; 131072],
 ) -> Ear {
     if e.more {
-        return e.wrote(tell(book, w, e.octets, report, store, area, records, out, e.at));
+        return e.wrote(tell(
+            rt, book, w, e.octets, report, store, area, records, out, e.at,
+        ));
     }
     e
 }
 
-fn listen(book: &[u8], w: Wish, fd: i32) {
+fn listen<R: Read>(rt: &(impl Print + Eprint), book: &[u8], w: Wish, input: &mut R) {
     let mut store = [0u8; 501];
-    let mut area = io::large_buffer();
+    let mut area = [0u8; 65536];
     let mut counts = [0u64; 12];
     let mut records = [0u8; 24576];
     let mut out = [0u8; 131072];
     let at = output::start(w.csv, &mut out);
     let e = all(
+        rt,
         book,
         ear::fresh(w.edition(), at),
         w,
-        fd,
+        input,
         &mut store,
         &mut area,
         &mut counts,
@@ -223,6 +245,7 @@ fn listen(book: &[u8], w: Wish, fd: i32) {
         &mut out,
     );
     end(
+        rt,
         book,
         e,
         w,
@@ -235,16 +258,18 @@ fn listen(book: &[u8], w: Wish, fd: i32) {
 }
 
 // Listens as the arguments ask for.
-pub fn run() {
-    let w = wish::read();
+pub fn run<R: Print + Eprint + Env + Files + Input>(rt: &R) {
+    let w = wish::read(rt);
     if w.wrong {
-        wish::usage();
-        return;
-    }
-    let fd = wish::open(w.file);
-    if fd < 0 {
+        wish::usage(rt);
         return;
     }
     let book = words::book();
-    listen(&book, w, fd);
+    if w.file == 0 {
+        listen(rt, &book, w, &mut rt.reader());
+        return;
+    }
+    if let Some(mut f) = wish::open(rt, w.file) {
+        listen(rt, &book, w, &mut f);
+    }
 }

@@ -1,9 +1,11 @@
 // What the arguments ask for.
 use apdu::Edition;
-use libc::STDERR_FILENO;
+use std::env::{Env, FillError};
+use std::fs;
+use std::fs::Files;
 
 // `later`: the later edition, not that of 1995; `file`: the number of the argument that names the file, 0 for standard input.
-#[derive(Drop)]
+#[derive(Clone, Copy)]
 pub struct Wish {
     pub csv: bool,
     pub octets: bool,
@@ -21,19 +23,19 @@ impl Wish {
     }
 }
 
-fn word(w: Wish, i: usize) -> Wish {
-    let mut buf = io::buffer();
-    let n = os::arg(i, &mut buf);
+// One that is longer than its area has no word, but its first octet.
+fn word(w: Wish, i: usize, buf: &[u8; 4096], n: usize) -> Wish {
+    let s = show::part(buf, 0, n);
     let mut v = w;
-    if check::same(&buf[..n], b"--csv") {
+    if s == b"--csv".as_slice() {
         v.csv = true;
         return v;
     }
-    if check::same(&buf[..n], b"--octets") {
+    if s == b"--octets".as_slice() {
         v.octets = true;
         return v;
     }
-    if check::same(&buf[..n], b"--later") {
+    if s == b"--later".as_slice() {
         v.later = true;
         return v;
     }
@@ -45,7 +47,7 @@ fn word(w: Wish, i: usize) -> Wish {
     v
 }
 
-pub fn read() -> Wish {
+pub fn read(rt: &impl Env) -> Wish {
     let mut w = Wish {
         csv: false,
         octets: false,
@@ -53,51 +55,66 @@ pub fn read() -> Wish {
         file: 0,
         wrong: false,
     };
-    let n = os::arg_count();
-    let mut i = 1;
-    while i < n {
-        w = word(w, i);
-        i += 1;
+    for i in 1..usize::MAX {
+        let mut buf = [0u8; 4096];
+        match rt.arg(i, &mut buf) {
+            Ok(n) => w = word(w, i, &buf, n),
+            Err(FillError::TooLong) => w = word(w, i, &buf, 0),
+            Err(FillError::NotPresent) => return w,
+        }
     }
     w
 }
 
-fn say(s: &[u8]) {
-    io::write_all(STDERR_FILENO, s);
+pub fn say(rt: &impl Eprint, s: &str) {
+    let _ = rt.eprint(s);
 }
 
 // What --later means, to both programs.
-pub fn later() {
+pub fn later(rt: &impl Eprint) {
     say(
-        b"--later: confirmed requests by the later edition: bits 6 to 4 of their second octet are the segments accepted\n(by that of 1995, as without it, they are zero bits: set, they are refused, 22).\n",
+        rt,
+        "--later: confirmed requests by the later edition: bits 6 to 4 of their second octet are the segments accepted\n(by that of 1995, as without it, they are zero bits: set, they are refused, 22).\n",
     );
 }
 
-pub fn usage() {
+pub fn usage(rt: &impl Eprint) {
     say(
-        b"usage: listen [--later] [--octets] [FILE]    a line for each report, with --octets its 16 octets too\n",
+        rt,
+        "usage: listen [--later] [--octets] [FILE]    a line for each report, with --octets its 16 octets too\n",
     );
     say(
-        b"       listen [--later] --csv [FILE]         a row for each value that was read or written\n",
+        rt,
+        "       listen [--later] --csv [FILE]         a row for each value that was read or written\n",
     );
-    later();
-    say(b"FILE holds trunk octets as they came; without one they are read from standard input.\n");
+    later(rt);
     say(
-        b"Such a recording has no silences, so a frame that was cut off hides the good ones behind it.\n",
+        rt,
+        "FILE holds trunk octets as they came; without one they are read from standard input.\n",
     );
-    say(b"A recording with silences in it (records of four octets) is read by replay FILE.\n");
+    say(
+        rt,
+        "Such a recording has no silences, so a frame that was cut off hides the good ones behind it.\n",
+    );
+    say(
+        rt,
+        "A recording with silences in it (records of four octets) is read by replay FILE.\n",
+    );
 }
 
-// The file to read, or standard input; one that does not open is said, and answered below 0.
-pub fn open(file: usize) -> i32 {
-    if file == 0 {
-        return libc::STDIN_FILENO;
+// The file to read; one that does not open is said.
+pub fn open<R: Files + Env + Eprint>(rt: &R, file: usize) -> Option<R::File> {
+    let mut buf = [0u8; 4096];
+    let n = rt.arg(file, &mut buf).unwrap_or(0);
+    let Ok(name) = str::from_utf8(show::part(&buf, 0, n)) else {
+        say(rt, "the file's name is no UTF-8\n");
+        return None;
+    };
+    match fs::open(rt, name) {
+        Ok(f) => Some(f),
+        Err(e) => {
+            let _ = eprintln!(rt; "{name}: {e}");
+            None
+        }
     }
-    let mut buf = io::buffer();
-    let n = os::arg(file, &mut buf);
-    let fd = os::open_read(&buf[..n]);
-    if fd < 0 {
-        os::fail(&buf[..n]);
-    }
-    fd
 }

@@ -6,24 +6,22 @@ mod tape;
 
 use listening::wish;
 
-fn usage() {
-    io::write_all(
-        libc::STDERR_FILENO,
-        b"usage: replay [--later] FILE    a line for each report, behind the number of the record that caused it\nFILE holds records of four octets: kind (0 octet, 1 silence, 2 forget), value, two zeros.\n",
+fn usage(rt: &impl Eprint) {
+    wish::say(
+        rt,
+        "usage: replay [--later] FILE    a line for each report, behind the number of the record that caused it\nFILE holds records of four octets: kind (0 octet, 1 silence, 2 forget), value, two zeros.\n",
     );
-    wish::later();
+    wish::later(rt);
 }
 
-fn main() {
-    let w = wish::read();
+fn main(rt: HostRuntime) {
+    let w = wish::read(&rt);
     if w.wrong || w.csv || w.octets || w.file == 0 {
-        usage();
+        usage(&rt);
         return;
     }
-    let fd = wish::open(w.file);
-    if fd < 0 {
-        return;
+    if let Some(mut f) = wish::open(&rt, w.file) {
+        let book = words::book();
+        tape::replay(&rt, &book, w.edition(), &mut f);
     }
-    let book = words::book();
-    tape::replay(&book, w.edition(), fd);
 }

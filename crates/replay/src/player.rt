@@ -10,7 +10,7 @@ use words::fill;
 // `edition`: chosen once, for the whole file; `records`: eaten so far, from the file's first on; `refused`: the number that ended the replay, 0 before;
 // `at`: the octets gathered for writing; `more`: the last call reported, the rest is offered again; `stopped`: nothing more can be written.
 // `open`: the file goes on; `held`: octets of a record of which the others have not come yet.
-#[derive(Drop)]
+#[derive(Clone, Copy)]
 pub struct Player {
     pub edition: Edition,
     pub link: Link,
@@ -45,13 +45,13 @@ impl Player {
     }
 
     // What is gathered is written out, so many octets being held over.
-    pub fn flushed(self, held: usize, out: &[u8; 131072]) -> Player {
+    pub fn flushed(self, rt: &(impl Print + Eprint), held: usize, out: &[u8; 131072]) -> Player {
         let mut p = self;
         p.held = held;
         if p.stopped {
             return p;
         }
-        p.wrote(output::flush(p.at, out))
+        p.wrote(output::flush(rt, p.at, out))
     }
 
     // The file is read no further.
@@ -110,7 +110,7 @@ fn eat(
 }
 
 // The record that ends the replay, by its number in the file. No other number than 67 comes: the areas have their sizes, the state was fresh.
-fn refused(book: &[u8], p: Player, out: &mut [u8; 131072]) -> Player {
+fn refused(rt: &(impl Print + Eprint), book: &[u8], p: Player, out: &mut [u8; 131072]) -> Player {
     let a = fill(
         book,
         b"record #1: refused, #2: kind above 2, third or fourth octet not 0, or a silence with a value\n",
@@ -120,11 +120,12 @@ fn refused(book: &[u8], p: Player, out: &mut [u8; 131072]) -> Player {
         out,
         p.at,
     );
-    p.wrote(output::when_full(a, out))
+    p.wrote(output::when_full(rt, a, out))
 }
 
 // One call, and what is told of it. `items`: an area for the records of a value's items, as `listening` has it.
 pub fn turn(
+    rt: &(impl Print + Eprint),
     book: &[u8],
     p: Player,
     rest: &[u8],
@@ -136,11 +137,11 @@ pub fn turn(
     let mut report = [0u8; 16];
     let q = eat(p, rest, store, &mut report, area);
     if q.refused != 0 {
-        return refused(book, q, out);
+        return refused(rt, book, q, out);
     }
     if q.more {
         let a = lines::recorded(book, q.records, &report, store, area, items, out, q.at);
-        return q.wrote(output::when_full(a, out));
+        return q.wrote(output::when_full(rt, a, out));
     }
     q
 }

@@ -4,10 +4,13 @@ use crate::player;
 use crate::player::Player;
 use apdu::Edition;
 use listening::output;
+use std::io;
+use std::io::Read;
 use words::{fill, one, put};
 
 // Whole records: what a call leaves after a report is offered again. Each report eats a record, so no more calls than octets are needed.
 fn piece(
+    rt: &(impl Print + Eprint),
     book: &[u8],
     p: Player,
     s: &[u8],
@@ -22,6 +25,7 @@ fn piece(
     while 0 < left && now.more {
         let eaten = std::num::wrapping_sub_u64(now.records, start) as usize;
         now = player::turn(
+            rt,
             book,
             now,
             show::part(s, octets_of(eaten), s.len()),
@@ -44,11 +48,11 @@ fn octets_of(records: usize) -> usize {
 }
 
 // One read behind the octets that are held over.
-fn read(fd: i32, held: usize, buf: &mut [u8]) -> isize {
+fn read<R: Read>(input: &mut R, held: usize, buf: &mut [u8]) -> io::Result<usize> {
     if held <= buf.len() {
-        return libc::read(fd, &mut buf[held..]);
+        return input.read(&mut buf[held..]);
     }
-    0
+    Ok(0)
 }
 
 // What is behind the whole records goes to the front.
@@ -61,36 +65,49 @@ fn carry(from: usize, buf: &mut [u8; 65536]) {
 }
 
 // One read, and what is replayed of it. A read that fails is said; it is not the file's end, so nothing is said of octets held over.
-fn some(
+fn some<R: Read>(
+    rt: &(impl Print + Eprint),
     book: &[u8],
     p: Player,
-    fd: i32,
+    input: &mut R,
     buf: &mut [u8; 65536],
     store: &mut [u8; 501],
     area: &mut [u8; 65536],
     items: &mut [u8; 24576],
     out: &mut [u8; 131072],
 ) -> Player {
-    let got = read(fd, p.held, buf);
-    if got < 0 {
-        os::fail(b"replay: reading");
-        return p.closed(0);
-    }
+    let got = match read(input, p.held, buf) {
+        Ok(n) => n,
+        Err(e) => {
+            let _ = eprintln!(rt; "replay: reading: {e}");
+            return p.closed(0);
+        }
+    };
     if got == 0 {
         return p.closed(p.held);
     }
-    let n = std::num::wrapping_add_usize(p.held, io::count(got, buf));
+    let n = std::num::wrapping_add_usize(p.held, got);
     let whole = std::num::wrapping_sub_usize(n, n % 4);
-    let q = piece(book, p, show::part(buf, 0, whole), store, area, items, out);
+    let q = piece(
+        rt,
+        book,
+        p,
+        show::part(buf, 0, whole),
+        store,
+        area,
+        items,
+        out,
+    );
     carry(whole, buf);
-    q.flushed(n % 4, out)
+    q.flushed(rt, n % 4, out)
 }
 
 // All of the file: the loop counts its turns down from a number that no run uses up.
-fn all(
+fn all<R: Read>(
+    rt: &(impl Print + Eprint),
     book: &[u8],
     edition: Edition,
-    fd: i32,
+    input: &mut R,
     buf: &mut [u8; 65536],
     store: &mut [u8; 501],
     area: &mut [u8; 65536],
@@ -100,7 +117,7 @@ fn all(
     let mut p = player::fresh(edition);
     let mut turns = u64::MAX;
     while turns > 0 && p.open {
-        p = some(book, p, fd, buf, store, area, items, out);
+        p = some(rt, book, p, input, buf, store, area, items, out);
         turns -= 1;
     }
     p
@@ -114,7 +131,7 @@ fn plural(n: usize, out: &mut [u8; 131072], at: usize) -> usize {
 }
 
 // The octets behind the last whole record: how many and which.
-fn odd(book: &[u8], octets: &[u8], out: &mut [u8; 131072]) {
+fn odd(rt: &(impl Print + Eprint), book: &[u8], octets: &[u8], out: &mut [u8; 131072]) {
     let a = fill(
         book,
         b"end: #1 odd octet",
@@ -127,25 +144,31 @@ fn odd(book: &[u8], octets: &[u8], out: &mut [u8; 131072]) {
     let b = plural(octets.len(), out, a);
     let c = values::long::row(octets, out, b);
     let d = one(10, out, c);
-    output::flush(d, out);
+    output::flush(rt, d, out);
 }
 
 // The file's end.
-fn end(book: &[u8], p: Player, buf: &[u8; 65536], out: &mut [u8; 131072]) {
+fn end(
+    rt: &(impl Print + Eprint),
+    book: &[u8],
+    p: Player,
+    buf: &[u8; 65536],
+    out: &mut [u8; 131072],
+) {
     if 0 < p.held && !p.stopped {
-        odd(book, show::part(buf, 0, p.held), out);
+        odd(rt, book, show::part(buf, 0, p.held), out);
     }
 }
 
 // Replays an open file by an edition. What was told of a piece is written out with it.
-pub fn replay(book: &[u8], edition: Edition, fd: i32) {
-    let mut buf = io::large_buffer();
+pub fn replay<R: Read>(rt: &(impl Print + Eprint), book: &[u8], edition: Edition, input: &mut R) {
+    let mut buf = [0u8; 65536];
     let mut store = [0u8; 501];
-    let mut area = io::large_buffer();
+    let mut area = [0u8; 65536];
     let mut items = [0u8; 24576];
     let mut out = [0u8; 131072];
     let p = all(
-        book, edition, fd, &mut buf, &mut store, &mut area, &mut items, &mut out,
+        rt, book, edition, input, &mut buf, &mut store, &mut area, &mut items, &mut out,
     );
-    end(book, p, &buf, &mut out);
+    end(rt, book, p, &buf, &mut out);
 }

@@ -2,14 +2,14 @@
 use services::{Service, Span, Target};
 
 // `priority`: 0 where there is none.
-#[derive(Drop)]
+#[derive(Clone, Copy)]
 pub struct Held {
     pub target: Target,
     pub value: Span,
     pub priority: u8,
 }
 
-#[derive(Drop)]
+#[derive(Clone, Copy)]
 pub enum Carried {
     Value(Held),
     Nothing,

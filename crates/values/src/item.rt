@@ -2,7 +2,7 @@
 // length (4 each, high octet first)"). The depth is told by the borders of groups.
 
 // `kind`: 0 application, 1 context, 2 opening, 3 closing; `place`: the octet after the tag.
-#[derive(Drop)]
+#[derive(Clone, Copy)]
 pub struct Item {
     pub kind: u8,
     pub number: u8,

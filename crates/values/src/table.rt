@@ -7,7 +7,7 @@ use services::{Answer, Target};
 use words::{fill, one, put, room};
 
 // Where the rows ended, and the number of the item to go on with where the area had no room for more.
-#[derive(Drop)]
+#[derive(Clone, Copy)]
 pub struct Told {
     pub at: usize,
     pub next: usize,
