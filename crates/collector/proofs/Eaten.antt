@@ -23,7 +23,6 @@ use Rattle.collector.specs.Acting.{acting, carrying, Acted, ActedAlone}
 use Rattle.collector.specs.Calls.{passing, Tells, Feeds}
 use Rattle.collector.specs.Lent.{over, Eats, unfed_by}
 use Rattle.collector.specs.declared.Fed.{Fed}
-use Rattle.collector.specs.declared.heard.Heard.{Heard}
 use Rattle.collector.specs.declared.lent.Ate.{Ate}
 use Rattle.collector.proofs.Actions.{moved_slots}
 use Rattle.collector.proofs.Answers.{feeds_line, feeds_area, feeds_slots, feeds_on, tells_quiet, tells_damage, tells_frame, data_fits, in_store, payload_fits, eats_not}

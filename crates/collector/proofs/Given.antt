@@ -1,5 +1,5 @@
 -- The key of every segment that a frame carries is one that a header gives: its addresses are those of the network header that was read.
-use Prim.Native.Nat.{ℕ, ◌≤◌}
+use Prim.Native.Nat.{ℕ}
 use native.Mathlib.Omega.{arith}
 use mathlib.Core.Path.{◌≡◌, subst}
 use mathlib.Core.Bool.{true}
@@ -22,7 +22,6 @@ use Rattle.rebuild.specs.View.{given_key}
 use Rattle.rebuild.specs.declared.Key.{Key}
 use Rattle.collector.specs.Heard.{heard_of, Route, route_of, parts_of}
 use Rattle.collector.specs.Frame.{Content, npdu_content, apdu_content, content_of, key_of, segment_from, segment_in, segment_at}
-use Rattle.collector.specs.Frame.Content.{message}
 use Rattle.collector.specs.declared.heard.Heard.{Heard}
 use Rattle.collector.specs.declared.heard.Parts.{Parts}
 use Rattle.collector.proofs.Routes.{GivenRoute, read_given}

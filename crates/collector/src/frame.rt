@@ -38,6 +38,7 @@ fn put_refusal(out: &mut [u8], w: Heard, n: u8)
 }
 
 // The number of a tag's refusal, 0 where every tag is good. It only checks: no octets are lent for the records, and 61 is as good as success.
+#[tactic(auto, using(crate::proofs::Content::number_bad, crate::proofs::Content::number_good, crate::proofs::Content::number_small))]
 fn tag_number(params: &[u8]) -> u8
     ensures { result ≡ refusal_in (items_of params.now) }
 {
@@ -50,6 +51,7 @@ fn tag_number(params: &[u8]) -> u8
 }
 
 // "its tags good", or kind 6 with the tag number.
+#[tactic(auto, using(crate::proofs::Content::tags_put, crate::proofs::Content::tags_turn))]
 fn put_by_tags(out: &mut [u8], params: &[u8], r: Report)
     requires { length out.old ≡ report_size }
     ensures { out.new ≡ report_octets (by_tags (items_of params.now) r) }
@@ -64,6 +66,7 @@ fn put_by_tags(out: &mut [u8], params: &[u8], r: Report)
 }
 
 // The report of a segment, from its answer and the area after it.
+#[tactic(auto, using(crate::proofs::Content::answer_complete, crate::proofs::Content::answer_refused, crate::proofs::Content::answer_taken, crate::proofs::Content::answer_within))]
 pub fn put_answer(w: Heard, m: Parts, step: Step, out: &mut [u8], area: &[u8])
     requires { (length out.old ≡ report_size) × Named step area.now }
     ensures { out.new ≡ report_octets (step_report w m step area.now) }
@@ -90,6 +93,7 @@ pub fn put_answer(w: Heard, m: Parts, step: Step, out: &mut [u8], area: &[u8])
 }
 
 // A segment, with the addresses of its network header: rebuilding alone. Its report is put behind it (`put_answer`), so that the slots are off the stack when tags are judged.
+#[tactic(auto, using(crate::proofs::Content::segment_is, crate::proofs::Actions::segment_taken_lem))]
 pub fn take(w: Heard, v: Route, m: Parts, a: &[u8], slots: Slots, area: &mut [u8]) -> Taken
     requires { Seated slots area.old × Segmented m a.now }
     ensures { Takes w v m a.now slots area.old result area.new }
@@ -117,6 +121,7 @@ pub fn take(w: Heard, v: Route, m: Parts, a: &[u8], slots: Slots, area: &mut [u8
 }
 
 // A segment: rebuilding, then its report.
+#[tactic(auto, using(crate::proofs::Actions::lent_seated, crate::proofs::Actions::takes_acted))]
 fn act_segment(
     w: Heard,
     v: Route,
@@ -136,6 +141,7 @@ fn act_segment(
 }
 
 // An APDU that is no segment, whatever its addresses: its tags are judged.
+#[tactic(auto, using(crate::proofs::Content::plain_put))]
 fn put_plain(w: Heard, m: Parts, a: &[u8], out: &mut [u8])
     requires { (length out.old ≡ report_size) × ((m.params ≤ length a.now) × (length a.now ≤ 501)) }
     ensures { SaidBehind w (λ v. Content.message v m a.now) out.new }
@@ -151,6 +157,7 @@ fn put_plain(w: Heard, m: Parts, a: &[u8], out: &mut [u8])
 }
 
 // An APDU at a place, by its octets, behind its network header.
+#[tactic(auto, using(crate::proofs::Hearing::apdu_alone, crate::proofs::Hearing::apdu_part, crate::proofs::Hearing::apdu_turned, crate::proofs::Content::parts_within, crate::proofs::Content::some_octets_lem))]
 fn hear_apdu(w: Heard, h: Npdu, a: &[u8], at: usize, out: &mut [u8]) -> Told
     requires { (length out.old ≡ report_size) × (length a.now ≤ 501) }
     ensures { HearsBehind w (apdu_content (route_of h) a.now (read_apdu w.edition a.now)) at a.now out.old result out.new }
@@ -180,6 +187,7 @@ fn hear_apdu(w: Heard, h: Npdu, a: &[u8], at: usize, out: &mut [u8]) -> Told
 }
 
 // The data of a frame of type 5 or 6: the network header, and what follows it.
+#[tactic(auto, using(crate::proofs::Content::next_inside, crate::proofs::Hearing::npdu_on, crate::proofs::Hearing::npdu_spoken, crate::proofs::Hearing::npdu_turned))]
 fn hear_npdu(w: Heard, payload: &[u8], out: &mut [u8]) -> Told
     requires { (length out.old ≡ report_size) × (length payload.now ≤ 501) }
     ensures { HearsAs w (npdu_content w.edition payload.now (read_npdu payload.now)) payload.now out.old result out.new }
@@ -205,6 +213,7 @@ fn hear_npdu(w: Heard, payload: &[u8], out: &mut [u8]) -> Told
 }
 
 // Whether a good frame carries a network header. Slots move by such a frame alone.
+#[tactic(auto, using(octets::specs::Rules::tests))]
 pub fn carries(head: [u8; 5]) -> bool
     ensures { result ≡ carrying (oct head 0) }
 {
@@ -215,6 +224,7 @@ pub fn carries(head: [u8; 5]) -> bool
 }
 
 // A good frame of type 5 or 6, read by an edition: reported, unless it is a segment.
+#[tactic(auto, using(crate::proofs::Hearing::frame_heard))]
 pub fn hear(edition: Edition, head: [u8; 5], payload: &[u8], out: &mut [u8]) -> Told
     requires { Carries true head payload.now × (length out.old ≡ report_size) }
     ensures { Hears (heard_of edition head) payload.now out.old result out.new }
@@ -224,6 +234,7 @@ pub fn hear(edition: Edition, head: [u8; 5], payload: &[u8], out: &mut [u8]) -> 
 }
 
 // A good frame of type 5 or 6: its head and its data, read by an edition.
+#[tactic(auto, using(crate::proofs::Actions::acted_heard, crate::proofs::Hearing::heard_alone, crate::proofs::Hearing::heard_collected, crate::proofs::Hearing::heard_inside, crate::proofs::Hearing::heard_line, crate::proofs::Hearing::heard_segment))]
 pub fn act(
     edition: Edition,
     head: [u8; 5],
@@ -249,6 +260,7 @@ pub fn act(
 }
 
 // A good frame of another type, whatever edition, slots and message area are.
+#[tactic(auto, using(crate::proofs::Actions::frame_uncarried))]
 pub fn put_other(head: [u8; 5], payload: &[u8], out: &mut [u8])
     requires { Carries false head payload.now × (length out.old ≡ report_size) }
     ensures { ActedAlone head payload.now out.new }

@@ -7,7 +7,7 @@ use npdu::{Address, Npdu, addresses};
 use reports::{Apdu, Frame};
 
 // What holds of the whole frame: its type, destination and source, and the edition by which it is read.
-#[derive(Drop)]
+#[derive(Clone, Copy)]
 pub struct Heard {
     pub frame: Frame,
     pub edition: Edition,
@@ -26,7 +26,7 @@ pub fn heard_of(edition: Edition, head: [u8; 5]) -> Heard
 }
 
 // Where a message comes from and where it goes, behind a router or not.
-#[derive(Drop)]
+#[derive(Clone, Copy)]
 pub struct Route {
     pub source: Address,
     pub destination: Address,
@@ -45,7 +45,7 @@ pub fn route_of(h: Npdu) -> Route
 }
 
 // An APDU as it is used here: its type, what a report says of it, its segment part, and where its parameters begin.
-#[derive(Drop)]
+#[derive(Clone, Copy)]
 pub struct Parts {
     pub kind: u8,
     pub apdu: Apdu,
@@ -54,6 +54,7 @@ pub struct Parts {
 }
 
 // From the PDU that was read and its first octet.
+#[tactic(auto, unfolding(crate::specs::Heard::parts_of))]
 pub fn parts_of(p: Pdu, first: u8) -> Parts
     ensures { result ≡ parts_of p first }
 {
@@ -72,7 +73,7 @@ pub fn parts_of(p: Pdu, first: u8) -> Parts
 }
 
 // What a frame of type 5 or 6 says by itself: it was reported, and `parts.segment.seg` is false; or it is a segment, whose APDU begins at a place.
-#[derive(Drop)]
+#[derive(Clone, Copy)]
 pub struct Told {
     pub at: usize,
     pub route: Route,

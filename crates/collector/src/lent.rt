@@ -9,7 +9,7 @@ use frames::{Link, Outcome};
 use rebuild::Slots;
 
 // The answer to a piece: 60, 59 or 0; the octets eaten; whether a report was written; whether the slots may have moved.
-#[derive(Drop)]
+#[derive(Clone, Copy)]
 pub struct Ate {
     pub refused: u8,
     pub eaten: usize,
@@ -20,7 +20,7 @@ pub struct Ate {
 }
 
 // The answer to a silence; the slots are as they were.
-#[derive(Drop)]
+#[derive(Clone, Copy)]
 pub struct Hushed {
     pub refused: u8,
     pub reported: bool,
@@ -28,7 +28,7 @@ pub struct Hushed {
 }
 
 // The answer to a forget order; the link is as it was.
-#[derive(Drop)]
+#[derive(Clone, Copy)]
 pub struct Freed {
     pub number: u8,
     pub slots: Slots,
@@ -49,6 +49,7 @@ fn unfed(link: Link, slots: Slots, number: u8) -> Ate
 }
 
 // Eats octets through the first that causes a report, else all.
+#[tactic(auto, using(crate::proofs::Eaten::carried, crate::proofs::Eaten::data_inside, crate::proofs::Eaten::data_short, crate::proofs::Eaten::data_taken, crate::proofs::Eaten::eats_area, crate::proofs::Eaten::eats_carried, crate::proofs::Eaten::eats_damage, crate::proofs::Eaten::eats_line, crate::proofs::Eaten::eats_other, crate::proofs::Eaten::eats_quiet, crate::proofs::Eaten::eats_slots, crate::proofs::Eaten::fair_slots))]
 pub fn feed(
     edition: Edition,
     link: Link,
@@ -135,6 +136,7 @@ fn quiet(link: Link, number: u8) -> Hushed
 }
 
 // A silence beside slots that 59 passes, whatever they are.
+#[tactic(auto, using(crate::proofs::Hushed::hush_damage, crate::proofs::Hushed::hush_frame, crate::proofs::Hushed::hush_quiet))]
 pub fn hush(link: Link, report: &mut [u8]) -> Hushed
     requires { length report.old ≡ report_size }
     ensures { HushesBeside link report.old result report.new }
@@ -158,6 +160,7 @@ pub fn hush(link: Link, report: &mut [u8]) -> Hushed
 }
 
 // The line fell silent.
+#[tactic(auto, using(crate::proofs::Hushed::hush_beside, crate::proofs::Hushed::hush_line, crate::proofs::Hushed::hush_slots))]
 pub fn silence(link: Link, slots: Slots, report: &mut [u8]) -> Hushed
     ensures { Hushes link slots report.old result report.new }
 {

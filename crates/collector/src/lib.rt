@@ -13,7 +13,7 @@ use frames::Receiver;
 use rebuild::Slots;
 
 // The state that one trunk has; the edition is the one that it began with.
-#[derive(Drop)]
+#[derive(Clone, Copy)]
 pub struct Collector {
     pub edition: Edition,
     pub receiver: Receiver,
@@ -21,7 +21,7 @@ pub struct Collector {
 }
 
 // The answer to a piece: 60, 59 or 0; the octets eaten; whether a report was written.
-#[derive(Drop)]
+#[derive(Clone, Copy)]
 pub struct Fed {
     pub refused: u8,
     pub eaten: usize,
@@ -30,7 +30,7 @@ pub struct Fed {
 }
 
 // The answer to a silence.
-#[derive(Drop)]
+#[derive(Clone, Copy)]
 pub struct Fell {
     pub refused: u8,
     pub reported: bool,
@@ -38,7 +38,7 @@ pub struct Fell {
 }
 
 // The answer to a forget order: 0, 59 or 56.
-#[derive(Drop)]
+#[derive(Clone, Copy)]
 pub struct Forgot {
     pub number: u8,
     pub state: Collector,
