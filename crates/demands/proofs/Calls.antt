@@ -24,7 +24,7 @@ use Rattle.rebuild.specs.declared.Forgot.{Forgot as Freed}
 use Rattle.rebuild.proofs.Seen.{view_unview}
 use Rattle.rebuild.proofs.Giving as Giving
 use lib.ListN.{length}
-use Rattle.collector.specs.Calls.{box, written, said_so, feed_refusal, feeding, Feeds, silence_refusal, stilling, Stills, Forgets}
+use Rattle.collector.specs.Calls.{written, said_so, feed_refusal, feeding, Feeds, silence_refusal, stilling, Stills, Forgets}
 use Rattle.collector.specs.declared.Collector.{Collector}
 use Rattle.collector.specs.declared.Fed.{Fed}
 use Rattle.collector.specs.declared.Fell.{Fell}

@@ -8,7 +8,7 @@ use mathlib.Core.List.{List, [], ◌∷◌, ◌++◌, map}
 use lib.Dec.{eqb, leb, ltb}
 use lib.ListN.{length, drop}
 use borrow.Author.Tests.{eq-eqb, eqb-true, eqb-false, ltb-true, ltb-false}
-use Rattle.octets.specs.Choice.{pick, both, pick_case, by_test, both_true, true_both, impossible, not_so}
+use Rattle.octets.specs.Choice.{pick, both, pick_case, by_test, both_true, true_both, not_so}
 use Rattle.octets.specs.Reading.{Octets, oct}
 use Rattle.octets.specs.Laid.{written_count, Laid, answer_of}
 use Rattle.octets.specs.declared.Written.{Written}
@@ -29,7 +29,6 @@ use Rattle.services.specs.Reading.{read_service}
 use Rattle.services.specs.declared.Answer.{Answer as ServiceAnswer}
 use Rattle.services.specs.declared.Answer.TheVariants as ServiceIs
 use Rattle.services.proofs.Refusals.{AnswerHas, read_has}
-use Rattle.service_writer.specs.Layout as ServiceWriter
 use Rattle.service_writer.specs.Fault as ServiceFault
 use Rattle.messages.specs.Slots.{slot_at}
 use Rattle.rebuild.specs.View.{keys, seen}

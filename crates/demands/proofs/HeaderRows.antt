@@ -14,7 +14,7 @@ use Rattle.apdu.specs.Fault.{mor_fault, window_fault, segment_fault, code_fault,
 use Rattle.apdu.proofs.LeftToRight.{left_to_right}
 use Rattle.apdu.proofs.Rows.{row_20, row_21, row_22, row_23, row_24, one_outcome}
 use Rattle.apdu.proofs.FirstFault.{fault_22, fault_23, fault_none, fault_read}
-use Rattle.demands.specs.HeaderRows.{HeaderLeftToRight, HeaderEndsEarly, HeaderHighType, HeaderZeroBitSet, HeaderSizeOrWindow, HeaderLeftOver, HeaderOneOutcome, HeaderWriterExact, HeaderWriterAsRead, Whole, HeadersWorked, HeadersRefused}
+use Rattle.demands.specs.HeaderRows.{HeaderLeftToRight, HeaderEndsEarly, HeaderHighType, HeaderZeroBitSet, HeaderSizeOrWindow, HeaderLeftOver, HeaderOneOutcome, HeaderWriterExact, HeaderWriterAsRead, HeadersWorked, HeadersRefused}
 
 pub header_left_to_right : HeaderLeftToRight
 header_left_to_right = left_to_right

@@ -1,8 +1,8 @@
 -- The replay: its records exactly when, its numbers exactly when, what it changes, and demand 3 of it.
-use Prim.Native.Nat.{ℕ, ◌*◌, ◌/◌, ◌%◌, ◌≤◌, ◌<◌}
+use Prim.Native.Nat.{ℕ, ◌/◌, ◌%◌}
 use native.Mathlib.Omega.{arith}
 use mathlib.Core.Path.{◌≡◌, refl, sym, ap, subst, ◌∙◌}
-use mathlib.Core.Logic.{◌⊎◌, inl, inr, ⊎_elim}
+use mathlib.Core.Logic.{◌⊎◌, inl, inr}
 use mathlib.Core.Bool.{Bool, true, false}
 use mathlib.Core.List.{List, [], ◌∷◌, ◌++◌}
 use mathlib.Core.Option.{Option, none, some}
@@ -37,16 +37,15 @@ use Rattle.playback.specs.declared.Played.{Played}
 use Rattle.playback.proofs.Records.{records_exactly, front_behind}
 use Rattle.playback.proofs.Judging.{ready_by}
 use Rattle.playback.proofs.Playing.{play_most, play_some, play_all}
-use Rattle.playback.proofs.Parts.{Rest, Taken, taken, whole_stop, rest_none, rest_behind, bad_stops}
+use Rattle.playback.proofs.Parts.{Rest, taken, whole_stop, rest_none, rest_behind, bad_stops}
 use Rattle.playback.proofs.Fed.{box_feed}
 use Rattle.playback.proofs.Quiet.{quiet_reads, reads_quiet}
 use Rattle.playback.proofs.Eaten.{play_eats, seen_one}
 use Rattle.playback.proofs.Ways.{Way, way}
 use Rattle.playback.proofs.Ways.Way.{by_state, by_length, through}
-use Rattle.playback.proofs.Alike.{plays_one, played_by, comes}
 use Rattle.playback.proofs.Demand as Replaying
 use Rattle.playback.proofs.Examples as Examples
-use Rattle.demands.specs.Words.{One, SixtyThenFiftyNine, Broken}
+use Rattle.demands.specs.Words.{SixtyThenFiftyNine, Broken}
 use Rattle.demands.specs.Replay.{RecordsAre, RecordsExact, Whole, Arrays, Stopped, ByNumber, ReplayNumbers, ReplayRefused, ReplayChanges, ReplayDoes, ReplayAsCalled, ReplayByPosition, ReplayAnyPart, ReplayCanBeOffered, ReplayWorked, ReplaySilenceWorked}
 use Rattle.demands.proofs.FiftyNine.{feed_numbers}
 

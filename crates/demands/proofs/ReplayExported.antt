@@ -2,8 +2,8 @@
 use Prim.Native.Nat.{ℕ}
 use native.Mathlib.Omega.{arith}
 use mathlib.Core.Path.{◌≡◌, refl, sym, ap, subst, ◌∙◌}
-use mathlib.Core.Logic.{◌⊎◌, inl, inr}
-use mathlib.Core.Bool.{true, false}
+use mathlib.Core.Logic.{inl, inr}
+use mathlib.Core.Bool.{false}
 use mathlib.Core.List.{List, [], ◌∷◌}
 use mathlib.Core.Option.{Option, none, some}
 use lib.Dec.{eqb}
@@ -23,7 +23,7 @@ use Rattle.rebuild.specs.declared.Key.{Key}
 use Rattle.rebuild.specs.declared.Slots.{Slots}
 use Rattle.rebuild.proofs.Seen.{view_unview, unview_view}
 use Rattle.reports.specs.Layout.{report_size}
-use Rattle.collector.specs.Calls.{sized, slots_of, said_so, Answered}
+use Rattle.collector.specs.Calls.{sized, slots_of, Answered}
 use Rattle.collector.specs.declared.Collector.{Collector}
 use Rattle.collector.proofs.Alike.{blank, sixteen, feeding_box, stilling_box}
 use Rattle.records.specs.Flag.{flag}
@@ -31,7 +31,7 @@ use Rattle.state.specs.Layout.{state_size, state_octets}
 use Rattle.state.specs.Calls.{load_of, Loads}
 use Rattle.state.proofs.Whole.{Shaped, fits_shaped}
 use Rattle.state.proofs.Exact.{accepted, loads_only, shaped_loads}
-use Rattle.playback.specs.Calls.{one, then_go, play, Course, course_of, barred, play_refusal, playing, Plays}
+use Rattle.playback.specs.Calls.{one, then_go, play, Course, course_of, play_refusal, playing}
 use Rattle.playback.specs.Reading.{read_records}
 use Rattle.playback.specs.declared.Played.{Played}
 use Rattle.hitchbarley.specs.Trunk as Trunk
@@ -41,10 +41,10 @@ use Rattle.hitchbarley.specs.Offering.Calling.{made, replayed as by-replay}
 use Rattle.hitchbarley.proofs.Demand.{replays_carried}
 use Rattle.hitchbarley.proofs.Kept.{feeding_shaped, stilling_shaped, forgotten_shaped}
 use Rattle.demands.specs.Words.{One, Broken}
-use Rattle.demands.specs.Exported.{Holding, BadState, Carried}
+use Rattle.demands.specs.Exported.{Holding, BadState}
 use Rattle.demands.specs.Replay.{Whole, Arrays, Stopped, ByNumber}
 use Rattle.demands.specs.ReplayExported.{ReplayCall, ExportedReplay, CallsAreLinked}
-use Rattle.demands.proofs.Exported.{differ, Judged, judged, not_loaded, held_one, four, Own, octets_own, own_next, own_same, to_bad, of_bad}
+use Rattle.demands.proofs.Exported.{Judged, judged, not_loaded, held_one, four, Own, octets_own, own_next, own_same, to_bad, of_bad}
 use Rattle.demands.proofs.Exported.Judged.{other, none as no-state, some as state-there}
 use Rattle.demands.proofs.Replay.{is_60, is_59, contra, replay_numbers, replay_refused}
 

@@ -31,7 +31,7 @@ use Rattle.items.proofs.Exact.{things_named}
 use Rattle.services.specs.Parts.{any_number, present, wanted, number_rule, object_rule, optional_number, after_group, group, last}
 use Rattle.services.specs.Reading.{last_instance, target_parts, layout_for, read_service}
 use Rattle.services.specs.Reading as reading
-use Rattle.services.specs.Layout.{Message, shortest, optional, pointed, valued, things_of_message, encode, Pointing, Ranges, WholeValue}
+use Rattle.services.specs.Layout.{Message, shortest, optional, pointed, valued, things_of_message, Pointing, Ranges, WholeValue}
 use Rattle.services.specs.Layout.Message.{read_property, read_property_ack, write_property, who_is, i_am, error_of}
 use Rattle.services.specs.Shows.{For, pointed_of, message_of, Shows, ValidFor}
 use Rattle.services.specs.declared.Answer.{Answer}

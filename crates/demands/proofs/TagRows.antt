@@ -1,16 +1,16 @@
 -- The rows 30 to 34 at one tag: what the statements of specs/TagRows say, from the laws of tags and items.
-use Prim.Native.Nat.{ℕ, zero, suc, ◌+◌, ◌≤◌, ◌<◌}
+use Prim.Native.Nat.{ℕ, zero, suc, ◌+◌, ◌≤◌}
 use native.Mathlib.Omega.{arith}
 use mathlib.Core.Path.{◌≡◌, refl, sym, ap, subst, ◌∙◌}
 use mathlib.Core.Logic.{inl, inr, ⊎_elim}
 use mathlib.Core.List.{List, [], ◌∷◌, ◌++◌}
 use lib.ListN.{length, length-append}
 use Rattle.octets.specs.Reading.{Octets}
-use Rattle.octets.specs.Has.{Has, all_has}
+use Rattle.octets.specs.Has.{all_has}
 use Rattle.octets.specs.Every.{octets_none, octets_more, octets_join}
 use Rattle.tags.specs.Types.{least, most}
 use Rattle.tags.specs.Reading.{number_at, two_at, four_at, length_at, first_rule, first_content, whole_at, sign_bad, signed_at, contents_at, context_at, application_at, head_at}
-use Rattle.tags.specs.Layout.{Thing, Valid, encode, tag_of, Good, Stands}
+use Rattle.tags.specs.Layout.{Thing, encode, tag_of, Good, Stands}
 use Rattle.tags.specs.Layout.Thing.{application, boolean, context, opening, closing}
 use Rattle.tags.specs.Rows.{Early, Given}
 use Rattle.tags.specs.Rows.Given.{thirty, thirty_one, thirty_two, thirty_three, thirty_four}

@@ -25,7 +25,7 @@ use Rattle.tags.specs.Layout.{Thing}
 use Rattle.items.specs.Grammar.{encode_all}
 use Rattle.items.proofs.Exact as Items
 use Rattle.item_writer.proofs.Trips as Trips
-use Rattle.services.specs.Layout.{optional, pointed, things_of_message, encode}
+use Rattle.services.specs.Layout.{optional, pointed, things_of_message}
 use Rattle.services.specs.Shows.{pointed_of, message_of, Shows, ValidFor}
 use Rattle.services.specs.declared.Service.{Service}
 use Rattle.services.specs.declared.Service.TheVariants.{ReadProperty, ReadPropertyAck, WriteProperty, WhoIs, IAm, Error}
