@@ -13,7 +13,7 @@ use rebuild::Slots;
 use reports::Report;
 
 // The answer: 60, 59, 68, 67 or 0; the records eaten; whether a report was written; whether the slots may have moved.
-#[derive(Drop)]
+#[derive(Clone, Copy)]
 pub struct Went {
     pub refused: u8,
     pub eaten: usize,
@@ -24,7 +24,7 @@ pub struct Went {
 }
 
 // What one turn eats and leaves: whether the replay ends with it, and with which number.
-#[derive(Drop)]
+#[derive(Clone, Copy)]
 struct Lap {
     ends: bool,
     number: u8,
@@ -36,7 +36,7 @@ struct Lap {
 }
 
 // A silence: whether it wrote a report, and the link behind it.
-#[derive(Drop)]
+#[derive(Clone, Copy)]
 struct Lull {
     reported: bool,
     link: Link,

@@ -13,7 +13,7 @@ use frames::Receiver;
 pub const SIZE: usize = 4;
 
 // The answer to records: 60, 59, 68, 67 or 0; the records eaten; whether a report was written.
-#[derive(Drop)]
+#[derive(Clone, Copy)]
 pub struct Played {
     pub refused: u8,
     pub eaten: usize,

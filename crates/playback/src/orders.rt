@@ -4,7 +4,7 @@ ghost use Rattle.playback.specs.Reading.{order_of};
 ghost use Rattle.playback.specs.Lent.{record_by, OctetFirst, Gathered};
 
 // What a record is.
-#[derive(Drop)]
+#[derive(Clone, Copy)]
 pub enum Record {
     Octet(u8),
     Silence,
