@@ -1,10 +1,10 @@
 -- Orders one after the other, each by its own call, are a way of offering them; so is a whole play of a run.
-use Prim.Native.Nat.{ℕ, zero, suc, ◌+◌, ◌-◌, ◌≤◌, ◌<◌}
+use Prim.Native.Nat.{ℕ, suc, ◌+◌, ◌-◌}
 use native.Mathlib.Omega.{arith}
 use mathlib.Core.Path.{◌≡◌, refl, sym, ap, subst, ◌∙◌}
 use mathlib.Core.List.{List, [], ◌∷◌, ◌++◌}
 use mathlib.Core.Option.{Option, none, some}
-use lib.ListN.{length, drop}
+use lib.ListN.{drop}
 use Rattle.runs.specs.Run.{Run, Order, octs}
 use Rattle.runs.specs.Run.Event.{octet, silence}
 use Rattle.runs.specs.Run.Order.{trunk, forget}
@@ -19,7 +19,7 @@ use Rattle.rebuild.specs.declared.Key.{Key}
 use Rattle.collector.specs.Calls.{box, Answered}
 use Rattle.collector.proofs.Alike.{Boxed}
 use Rattle.playback.specs.Calls.{one, then_go, play, Ready}
-use Rattle.playback.proofs.Readiness.{ReadyAt, one_ready}
+use Rattle.playback.proofs.Readiness.{one_ready}
 use Rattle.playback.proofs.Playing.{play_most, play_some}
 use Rattle.playback.proofs.Fed.{feed_as_play}
 

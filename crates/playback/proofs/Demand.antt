@@ -1,14 +1,13 @@
 -- Demand 3 of the replay: every way of replaying a run is a way of making the collector's calls for it, with the same end; and every run can be replayed.
-use Prim.Native.Nat.{ℕ, ◌+◌, ◌%◌, ◌<◌}
+use Prim.Native.Nat.{ℕ, ◌+◌}
 use native.Mathlib.Omega.{arith}
 use mathlib.Core.Path.{◌≡◌, refl, sym, ap, subst, ◌∙◌}
-use mathlib.Core.Bool.{true, false}
 use mathlib.Core.List.{List, [], ◌∷◌, ◌++◌}
 use mathlib.Core.Option.{Option, none, some}
 use lib.Dec.{eqb}
 use lib.ListN.{length}
 use borrow.Author.Tests.{eqb-true, eq-eqb}
-use Rattle.octets.specs.Choice.{by_test, impossible}
+use Rattle.octets.specs.Choice.{by_test}
 use Rattle.runs.specs.Run.{Run, Order, ends}
 use Rattle.runs.specs.Run.Event.{octet, silence}
 use Rattle.runs.specs.Run.Order.{trunk, forget}
@@ -22,18 +21,18 @@ use Rattle.rebuild.specs.View.{keys}
 use Rattle.rebuild.proofs.Seen.{view_unview}
 use Rattle.recordings.specs.Frames.{rules}
 use Rattle.collector.specs.Frame.{bacnet}
-use Rattle.collector.specs.Calls.{box, written, said_so, slots_of, Answered, feed_refusal}
+use Rattle.collector.specs.Calls.{box, written, slots_of, Answered, feed_refusal}
 use Rattle.collector.specs.Offering.{Passes, BoxEnd, End, in_edition, WithArea, Called}
 use Rattle.collector.specs.declared.Collector.{Collector}
 use Rattle.collector.proofs.Alike.{Boxed, seen, SeenIn, told_said, state_of, blank, sixteen, called_by}
 use Rattle.collector.proofs.Demand.{demand3}
-use Rattle.playback.specs.Layout.{record_size, record_of, record_octets}
+use Rattle.playback.specs.Layout.{record_octets}
 use Rattle.playback.specs.Valid.Behind.{less}
 use Rattle.playback.specs.Reading.{Records, read_records}
-use Rattle.playback.specs.Calls.{one, then_go, play, Course, course, by_front, course_of, barred, play_refusal, playing, Ready}
+use Rattle.playback.specs.Calls.{one, then_go, play, Course, course, by_front, course_of, play_refusal, playing, Ready}
 use Rattle.playback.specs.Offering.{Replaying, replaying, Replayed}
 use Rattle.playback.proofs.Records.{read_behind, front_behind}
-use Rattle.playback.proofs.Readiness.{ReadyAt, one_ready}
+use Rattle.playback.proofs.Readiness.{one_ready}
 use Rattle.playback.proofs.Judging.{ready_by}
 use Rattle.playback.proofs.Alike.{played_by, comes}
 use Rattle.playback.proofs.Chains.{at_box, GoesBox, goes_none, play_goes}

@@ -4,7 +4,7 @@ use native.Mathlib.Omega.{arith}
 use mathlib.Core.Path.{◌≡◌, refl, sym, ap, subst, ◌∙◌}
 use mathlib.Core.List.{List, [], ◌∷◌}
 use mathlib.Core.Option.{Option, none, some}
-use lib.ListN.{length, take}
+use lib.ListN.{take}
 use Rattle.runs.specs.Run.{Run, Order}
 use Rattle.runs.specs.Run.Event.{octet, silence}
 use Rattle.runs.specs.Run.Order.{trunk, forget}
@@ -14,7 +14,6 @@ use Rattle.apdu.specs.declared.Edition.{Edition}
 use Rattle.rebuild.proofs.Seen.{view_one}
 use Rattle.collector.specs.Calls.{box, slots_of, Answered}
 use Rattle.collector.specs.Offering.{WithArea, calls}
-use Rattle.collector.specs.declared.Collector.{Collector}
 use Rattle.collector.proofs.Alike.{Boxed, seen, SeenIn, calling}
 use Rattle.playback.specs.Calls.{one, then_go, play, Ready}
 use Rattle.playback.specs.Offering.{OneByOne}

@@ -1,7 +1,7 @@
 -- Octets that the link ate together: what the last of them ended, and the turn that this makes. Nothing is judged again: 59 and 60 have passed.
 use Prim.Native.Nat.{ℕ, ◌≤◌}
 use mathlib.Core.Path.{◌≡◌, refl, sym}
-use mathlib.Core.Bool.{Bool, true, false}
+use mathlib.Core.Bool.{true, false}
 use mathlib.Core.List.{List}
 use lib.ListN.{length, take}
 use borrow.Author.Tests.{eqb-true}

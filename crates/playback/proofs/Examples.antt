@@ -26,7 +26,7 @@ use Rattle.playback.specs.Valid.{Bad}
 use Rattle.playback.specs.Valid.Bad.{kind_above}
 use Rattle.playback.specs.Reading.{read_records}
 use Rattle.playback.specs.Valid.Behind.{bad}
-use Rattle.playback.specs.Calls.{one, more, play, Course, course, by_front, course_of, play_refusal, playing, Ready}
+use Rattle.playback.specs.Calls.{one, more, play, Course, by_front, course_of, play_refusal, playing, Ready}
 use Rattle.playback.proofs.Records.{front_behind}
 use Rattle.playback.proofs.Parts.{bad_stops}
 use Rattle.playback.proofs.Fed.{ruled_by, box_feed, feed_as_play}

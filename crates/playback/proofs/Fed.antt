@@ -2,7 +2,7 @@
 use Prim.Native.Nat.{ℕ, ◌+◌}
 use native.Mathlib.Omega.{arith}
 use mathlib.Core.Path.{◌≡◌, refl, sym, ap, ◌∙◌}
-use mathlib.Core.Bool.{true, false}
+use mathlib.Core.Bool.{true}
 use mathlib.Core.List.{List, [], ◌∷◌}
 use mathlib.Core.Option.{Option, none, some}
 use Rattle.octets.specs.Choice.{by_test, impossible}
@@ -13,7 +13,7 @@ use Rattle.frames.specs.declared.Outcome.TheVariants.{Quiet, Frame, Damage}
 use Rattle.apdu.specs.declared.Edition.{Edition}
 use Rattle.frames.specs.declared.Receiver.{Receiver}
 use Rattle.frames.specs.declared.Fed.{Fed}
-use Rattle.frames.specs.Step.{step_of, reports_of, fed_at, feed_from, feed_of}
+use Rattle.frames.specs.Step.{step_of, reports_of, fed_at, feed_from}
 use Rattle.frames.proofs.Laws.{sound_step, opened}
 use Rattle.trunk.specs.Reading.{Out}
 use Rattle.trunk.specs.Demand.{out_of, ruled}

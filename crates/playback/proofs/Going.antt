@@ -1,9 +1,9 @@
 -- The turns of a replay one after the other: what holds from a turn on holds from the start.
 use Prim.Native.Nat.{ℕ, ◌+◌, ◌-◌, ◌*◌, ◌%◌, ◌≤◌, ◌<◌}
 use native.Mathlib.Omega.{arith}
-use mathlib.Core.Path.{◌≡◌, refl, sym, ap, ◌∙◌}
+use mathlib.Core.Path.{◌≡◌, refl, ap, ◌∙◌}
 use mathlib.Core.Bool.{Bool, true, false}
-use mathlib.Core.List.{List, []}
+use mathlib.Core.List.{List}
 use lib.ListN.{length, take, drop, drop_of_length-le, length-drop}
 use lib.Seq.{drop-drop}
 use Rattle.octets.specs.Choice.{pick, pick_not, impossible}
@@ -16,10 +16,9 @@ use Rattle.rebuild.specs.declared.Slots.{Slots}
 use Rattle.collector.specs.Acting.{Kept}
 use Rattle.collector.proofs.Content.{part_rest}
 use Rattle.playback.specs.Layout.{record_size}
-use Rattle.playback.specs.Calls.{more, Course, course, course_of, Comes, Ready}
-use Rattle.playback.specs.Lent.{Lends, LendsRecord, turn_over, more_of, GoesOn, Turned, went_over, Runs}
+use Rattle.playback.specs.Calls.{Course, course, course_of, Comes}
+use Rattle.playback.specs.Lent.{Lends, LendsRecord, turn_over, more_of, Turned, went_over, Runs}
 use Rattle.playback.specs.declared.lent.Lap.{Lap}
-use Rattle.playback.specs.declared.lent.Went.{Went}
 use Rattle.playback.proofs.Playing.{more_more}
 
 more_course : (m n : ℕ) (w : Course) → more_of m (more_of n w) ≡ more_of (m + n) w

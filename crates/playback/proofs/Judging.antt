@@ -1,6 +1,6 @@
 -- 60 and 59 by the code's tests, and what they leave: a refused call, or areas and a state that pass.
 use Prim.Native.Nat.{ℕ, ◌%◌}
-use mathlib.Core.Path.{◌≡◌, refl, sym, ap, ◌∙◌}
+use mathlib.Core.Path.{◌≡◌, refl, sym, ◌∙◌}
 use mathlib.Core.Bool.{Bool, true, false, not}
 use mathlib.Core.List.{List}
 use lib.Dec.{eqb}
@@ -14,11 +14,11 @@ use Rattle.frames.specs.Step.{sound_in}
 use Rattle.rebuild.specs.View.{view}
 use Rattle.rebuild.specs.declared.Slots.{Slots}
 use Rattle.reports.specs.Layout.{report_size}
-use Rattle.collector.specs.Calls.{passing, sized, sound, feed_refusal}
+use Rattle.collector.specs.Calls.{passing, feed_refusal}
 use Rattle.collector.specs.Lent.{over}
 use Rattle.playback.specs.Layout.{record_size}
-use Rattle.playback.specs.Calls.{Course, course_of, barred, play_refusal, playing, Comes, Plays, Ready}
-use Rattle.playback.specs.Lent.{judged, Judges, Lends, LendsWhole, Runs, stayed, went_over, Replays}
+use Rattle.playback.specs.Calls.{barred, play_refusal, playing, Comes, Ready}
+use Rattle.playback.specs.Lent.{judged, Judges, LendsWhole, Runs, stayed, went_over, Replays}
 use Rattle.playback.specs.declared.lent.Went.{Went}
 
 -- ---- the tests, one after the other

@@ -15,7 +15,7 @@ use Rattle.messages.specs.Slots as Messages
 use Rattle.rebuild.specs.declared.Key.{Key}
 use Rattle.collector.specs.Calls.{Answered}
 use Rattle.playback.specs.Layout.{record_size, record_octets}
-use Rattle.playback.specs.Reading.{Records, records, order_of, read_on, read_records}
+use Rattle.playback.specs.Reading.{Records, order_of, read_on, read_records}
 use Rattle.playback.specs.Calls.{one, more, then_go, play, Course, course, reached, by_front, course_of, Ready}
 use Rattle.playback.specs.Lent.{more_of}
 use Rattle.playback.proofs.Records.{read_behind, read_first}

@@ -1,14 +1,14 @@
 -- A play reports nothing exactly where the reading by position has no report.
 use Prim.Native.Nat.{ℕ, ◌+◌, ◌-◌}
 use native.Mathlib.Omega.{arith}
-use mathlib.Core.Path.{◌≡◌, refl, sym, ap, subst, ◌∙◌}
+use mathlib.Core.Path.{◌≡◌, refl, sym, ap, ◌∙◌}
 use mathlib.Core.List.{List, [], ◌∷◌, ◌++◌}
 use mathlib.Core.Option.{Option, none, some}
 use lib.ListN.{length, drop, drop_of_length-le}
 use borrow.Author.Tests.{eq-eqb}
 use Rattle.octets.specs.Choice.{impossible}
-use Rattle.runs.specs.Run.{Run, Order, ends}
-use Rattle.runs.specs.Offered.{Offer, Made, places, spoken, box_calls, Offered}
+use Rattle.runs.specs.Run.{Run, ends}
+use Rattle.runs.specs.Offered.{Offer, Made, places, spoken, box_calls}
 use Rattle.runs.specs.Offered.Offer.{over}
 use Rattle.apdu.specs.declared.Edition.{Edition}
 use Rattle.trunk.specs.Reading.{held_of}
@@ -22,7 +22,7 @@ use Rattle.collector.specs.declared.Collector.{Collector}
 use Rattle.collector.proofs.Alike.{Boxed, called_by}
 use Rattle.collector.proofs.Demand.{demand3}
 use Rattle.playback.specs.Calls.{one, play, Ready}
-use Rattle.playback.proofs.Readiness.{ReadyAt, one_ready}
+use Rattle.playback.proofs.Readiness.{one_ready}
 use Rattle.playback.proofs.Playing.{play_all, play_ready}
 use Rattle.playback.proofs.Chains.{at_box, one_goes, play_goes}
 

@@ -1,6 +1,5 @@
 -- What 59 and 60 pass goes on to pass, whatever order comes.
 use Prim.Native.Nat.{ℕ}
-use mathlib.Core.Path.{◌≡◌}
 use mathlib.Core.List.{List, [], ◌∷◌}
 use mathlib.Core.Option.{Option, none, some}
 use Rattle.runs.specs.Run.{Order}

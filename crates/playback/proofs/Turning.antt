@@ -1,15 +1,15 @@
 -- The ways in which one turn of the replay comes to what it promises, from what the calls below it promise.
-use Prim.Native.Nat.{ℕ, ◌+◌, ◌*◌, ◌≤◌, ◌<◌}
+use Prim.Native.Nat.{ℕ, ◌*◌, ◌<◌}
 use native.Mathlib.Omega.{arith}
 use mathlib.Core.Path.{◌≡◌, refl, sym, ap, subst, ◌∙◌}
-use mathlib.Core.Bool.{Bool, true, false}
-use mathlib.Core.List.{List, [], ◌∷◌, ◌++◌}
+use mathlib.Core.Bool.{true, false}
+use mathlib.Core.List.{List, [], ◌∷◌}
 use mathlib.Core.Option.{Option, none, some}
 use lib.ListN.{length, take, drop}
 use lib.Seq.{length-take-le}
 use Rattle.octets.specs.Choice.{impossible}
 use Rattle.octets.specs.Reading.{oct}
-use Rattle.runs.specs.Run.{Run, Order, octs}
+use Rattle.runs.specs.Run.{Order, octs}
 use Rattle.runs.specs.Run.Event.{octet, silence}
 use Rattle.runs.specs.Run.Order.{trunk, forget}
 use Rattle.runs.specs.Offered.{answer}
@@ -31,15 +31,15 @@ use Rattle.reports.specs.Kinds.{damaged}
 use Rattle.reports.specs.Layout.{report_octets}
 use Rattle.reports.specs.declared.Report.{Report}
 use Rattle.collector.specs.Acting.{Kept}
-use Rattle.collector.specs.Calls.{box, said_so, written, Answered, feeding}
+use Rattle.collector.specs.Calls.{said_so, written, Answered, feeding}
 use Rattle.collector.specs.Frame.{damage_octets}
 use Rattle.collector.specs.Lent.{over, Eats}
 use Rattle.collector.specs.declared.lent.Ate.{Ate}
 use Rattle.collector.proofs.Alike.{feeding_box}
-use Rattle.playback.specs.Layout.{record_size, record_of, record_octets}
+use Rattle.playback.specs.Layout.{record_size}
 use Rattle.playback.specs.Reading.{order_of}
-use Rattle.playback.specs.Calls.{one, play, Course, course, course_of, Comes, Ready}
-use Rattle.playback.specs.Lent.{record_by, OctetFirst, Gathered, Lends, LendsRecord, LendsOctet, hushed, Hushes, turn_over, more_of, GoesOn, Turned}
+use Rattle.playback.specs.Calls.{one, play, Course, course_of, Comes}
+use Rattle.playback.specs.Lent.{record_by, Gathered, LendsRecord, LendsOctet, hushed, Hushes, turn_over, more_of, GoesOn, Turned}
 use Rattle.playback.specs.declared.orders.Record.{Record}
 use Rattle.playback.specs.declared.orders.Record.TheVariants.{Octet, Silence, Forget, Bad}
 use Rattle.playback.specs.declared.lent.Lap.{Lap}

@@ -1,5 +1,5 @@
 -- What one call does: 60, 59, 68, and then the records one after the other, each by its own call of the collector's box in the state's edition.
-use Rattle.std.specs.Prelude.{ℕ, ◌+◌, ◌%◌, ◌≡◌, Bool, true, List, [], ◌∷◌, eqb, length}
+use Rattle.std.specs.Prelude.{ℕ, ◌+◌, ◌%◌, ◌≡◌, true, List, [], ◌∷◌, eqb, length}
 use Rattle.std.proofs.Math.Option.{Option, none, some}
 use Rattle.octets.specs.Choice.{pick}
 use Rattle.runs.specs.Run.{Run, Order}
@@ -15,7 +15,7 @@ use Rattle.rebuild.specs.declared.Key.{Key}
 use Rattle.collector.specs.Calls.{passing, sized, box, written, said_so, slots_of, Answered, feed_refusal}
 use Rattle.collector.specs.declared.Collector.{Collector}
 use Rattle.playback.specs.Layout.{record_size}
-use Rattle.playback.specs.Reading.{Records, read_records}
+use Rattle.playback.specs.Reading.{read_records}
 use Rattle.playback.specs.declared.Played.{Played}
 
 -- ---- an order by its own call: feeding one octet, a silence, forgetting a slot, which "writes no report" whether it answers 0 or 56
