@@ -22,7 +22,7 @@ use Rattle.items.proofs.Machine.{more_more, more_none, walk_steps}
 use Rattle.services.specs.Parts.{is, present, wanted, object_rule, number_rule, number_of, any_number, optional_number, after_group, group, last}
 use Rattle.services.specs.Reading.{last_instance, target, target_parts, layout_for, after_tags, read_service}
 use Rattle.services.specs.Reading as service
-use Rattle.services.specs.Layout.{Pointed, Pointing, shortest, optional, pointed}
+use Rattle.services.specs.Layout.{Pointed, Pointing, shortest, pointed}
 use Rattle.services.specs.Shows.{pointed_of}
 use Rattle.services.specs.declared.Answer.{Answer}
 use Rattle.services.specs.declared.Answer.TheVariants.{Refused}

@@ -17,7 +17,7 @@ use Rattle.tags.proofs.Bounds.{TagIn, head_in}
 use Rattle.tags.proofs.Refusals.{TagHas, refusals_have}
 use Rattle.items.specs.Records.{rec}
 use Rattle.items.specs.Reading.{Out, ending, closes, step, walk, deepest}
-use Rattle.items.specs.Reading.Out.{good, bad}
+use Rattle.items.specs.Reading.Out.{bad}
 use Rattle.items.proofs.Machine.{walk_ends, walk_steps}
 use Rattle.items.proofs.HeadFront.{head_front}
 use Rattle.item_judge.specs.Kinds.{stack}

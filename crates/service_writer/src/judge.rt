@@ -9,7 +9,7 @@ ghost use Rattle.service_writer.specs.Judging.{shut_of, rank_of, phase_after, ph
 use tags::Tag;
 
 // Where the layout stands: in group 3; behind it, where a priority may come; where no item may come any more; or refused.
-#[derive(Drop)]
+#[derive(Clone, Copy)]
 pub enum Phase {
     Inside,
     Behind,
@@ -19,7 +19,7 @@ pub enum Phase {
 
 // How far a reading went: its place, the items that may still begin, the numbers of the open groups and how many there are, the layout,
 // and the number of its refusal, 0 for none.
-#[derive(Drop)]
+#[derive(Clone, Copy)]
 pub struct Reached {
     pub at: usize,
     pub left: usize,
@@ -30,7 +30,7 @@ pub struct Reached {
 }
 
 // An item whose contents are not all there.
-#[derive(Drop)]
+#[derive(Clone, Copy)]
 pub struct Cut {
     pub kind: u8,
     pub number: u8,
