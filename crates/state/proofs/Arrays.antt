@@ -4,7 +4,7 @@ use mir.Val.{Val}
 use denote.Array.{each}
 use denote.Laws.{Is}
 use denote.Shadow.{shadow}
-use borrow.Author.Rules.{length_unmapped}
+use borrow.Author.Rules.{rules, length_unmapped}
 use Rattle.rebuild.specs.declared.Slot.{Slot}
 use Rattle.rebuild.specs.contracts.Slot as type
 use Rattle.state.specs.Slot.{SlotShaped}
@@ -19,3 +19,9 @@ pub slots_typed : (xs : List Slot) (us : List Val) → shadow (each (type.the_fi
 slots_typed [] us p = tt
 slots_typed (x ∷ xs) [] p = absurd p
 slots_typed (x ∷ xs) (u ∷ us) p = (slot_typed x (u ∷ []) p.0, slots_typed xs us p.1)
+
+-- the same as a function's own record of its arguments has them; for `search (slots_held, c.well_formed)`
+pub slots_held : (xs : List Slot) (us : List Val) → shadow (each (type.the_row).Denot (type.the_row).own_val xs us) → SlotsShaped xs
+slots_held [] us p = tt
+slots_held (x ∷ xs) [] p = absurd p
+slots_held (x ∷ xs) (u ∷ us) p = let q = p.0 in (record { from = search rules; to = search rules }, slots_held xs us p.1)
