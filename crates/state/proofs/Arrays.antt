@@ -14,7 +14,7 @@ use Rattle.state.specs.Layout.{SlotsShaped}
 slot_typed : (x : Slot) (vs : List Val) → Is (type.the_field).row ((type.the_field).into x) vs → SlotShaped x
 slot_typed x vs p = record { from = search (length_unmapped, p); to = search (length_unmapped, p) }
 
--- slots; for `search (slots_typed, st.good)`
+-- slots, as a field of a declared type has them
 pub slots_typed : (xs : List Slot) (us : List Val) → shadow (each (type.the_field).row.Denot (type.the_field).row.own_val (map (type.the_field).into xs) us) → SlotsShaped xs
 slots_typed [] us p = tt
 slots_typed (x ∷ xs) [] p = absurd p

@@ -86,5 +86,5 @@ module _ (o : List ℕ) (size : length o ≡ state_size) (g : Bool) (judged : g 
   unfolding lift_of load_of state_at
   lifts_good x l t h y e d = rw (eq-eqb (length o) state_size size, ← judged, h, y, e, d)
 
--- for `search (needs, lifts)`
+-- for `search (rules, lifts)`
 pub ruleset lifts = (lifts_sixty, lifts_bad, lifts_good)

@@ -129,7 +129,7 @@ module _ (o : List ℕ) where
           pub judge_unfair : s ≡ false → 59 ≡ judge_of o
           judge_unfair u = sym (judge_by (sym d ∙ u))
 
--- for `search (needs, judge-ways)`
+-- for `search (rules, judge-ways)`
 pub ruleset judge-ways = (judge_sized, judge_link, judge_edition, judge_free, judge_fair, judge_unfair)
 
 -- ---- for a silence: the number of a refusal, which is not 0, or 0 and the link

@@ -61,7 +61,7 @@ pub free_apart : (o : List ℕ) (i j b : ℕ) → b ≡ slot_place j → oct o b
 unfolding apart
 free_apart o i j b q z = rw (slot_used o j b q, z)
 
--- for `search (needs, alike-ways)`
+-- for `search (rules, alike-ways)`
 pub ruleset alike-ways = (front_apart, free_apart)
 
 -- ---- six pairs are all of them

@@ -63,5 +63,5 @@ pub both_last : (a r : Bool) → r ≡ a → r ≡ both a true
 both_last true r e = e
 both_last false r e = e
 
--- for `search (needs, one_by_one)`
+-- for `search (rules, one_by_one)`
 pub ruleset one_by_one = (both_on, both_off, both_last)
