@@ -23,7 +23,7 @@ use Rattle.reports.specs.Layout.{report_size, report_octets}
 use Rattle.collector.specs.Heard.{heard_of}
 use Rattle.collector.specs.Frame.{Content, content_of, step_report, damage_octets}
 use Rattle.collector.specs.Frame.Content.{message}
-use Rattle.collector.specs.Acting.{acting, carrying, Acted, ActedAlone, Carries, Lent, Seated, Segmented, Takes, Hears}
+use Rattle.collector.specs.Acting.{acting, carrying, Acted, ActedAlone, Carries, Seated, Segmented, Takes, Hears}
 use Rattle.collector.specs.Calls.{passing, slots_of}
 use Rattle.collector.specs.Lent.{over}
 use Rattle.collector.specs.declared.Collector.{Collector}

@@ -7,7 +7,7 @@ use mathlib.Core.List.{List, []}
 use lib.Dec.{eqb}
 use lib.ListN.{length, length-map, length-replicate}
 use borrow.Author.Tests.{eq-eqb, eqb-true}
-use Rattle.octets.specs.Choice.{pick, pick_case, pick_cases, pick_so, by_test, both, both_left}
+use Rattle.octets.specs.Choice.{pick, pick_case, pick_cases, pick_so, by_test, both_left}
 use Rattle.octets.specs.Reading.{Octets}
 use Rattle.apdu.specs.declared.Edition.{Edition}
 use Rattle.frames.specs.declared.Fell.{Fell}
@@ -23,7 +23,7 @@ use Rattle.reports.specs.Layout.{report_size}
 use Rattle.collector.specs.Frame.{bacnet}
 use Rattle.collector.specs.Calls.{passing, sized, box, slots_of, fresh_collector, Answered, feeding, stilling}
 use Rattle.collector.specs.declared.Collector.{Collector}
-use Rattle.collector.proofs.Reached.{keeps, Fair, FairAnswer, feed_fair}
+use Rattle.collector.proofs.Reached.{keeps, Fair, feed_fair}
 use Rattle.state.specs.Slot.{SlotShaped}
 use Rattle.state.specs.Layout.{state_size, state_octets}
 use Rattle.state.specs.Calls.{load_of, Saves}

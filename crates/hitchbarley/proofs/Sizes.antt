@@ -1,8 +1,7 @@
 -- The addresses in the slots keep their seven octets, as their type says: whatever frames, silences and forget orders do.
 use Prim.Native.Nat.{ℕ, zero, suc, ◌+◌, ◌≤◌}
 use native.Mathlib.Omega.{arith}
-use mathlib.Core.Path.{◌≡◌, refl, sym, ap, subst, ◌∙◌}
-use mathlib.Core.Bool.{true}
+use mathlib.Core.Path.{◌≡◌, refl, ap, subst}
 use mathlib.Core.List.{List, [], ◌∷◌, map}
 use mathlib.Core.Option.{Option, none, some}
 use lib.Dec.{eqb}
@@ -27,7 +26,7 @@ use Rattle.rebuild.specs.declared.Slot.{Slot}
 use Rattle.rebuild.proofs.Page.{key_laws}
 use Rattle.recordings.specs.Frames.{act_on, rules}
 use Rattle.collector.specs.Frame.{segment_at, bacnet}
-use Rattle.collector.specs.Calls.{slot_count, passing, sized, box, slots_of, Answered}
+use Rattle.collector.specs.Calls.{slot_count, passing, box, slots_of, Answered}
 use Rattle.collector.specs.declared.Collector.{Collector}
 use Rattle.collector.proofs.Given.{Sevens, sevens}
 use Rattle.collector.proofs.Reached.{Fair}

@@ -18,10 +18,10 @@ slice_bounds-replay-end c = omega (arith, lifted_size c.args.state.now c.lift-o.
 
 pub returns-then-f : goal.returns-then-f
 returns-then-f c =
-    let os : Octets c.args.state.now = λ i. omega (arith, c.type_inv.state i) in
+    let os : Octets c.args.state.now = search rules in
     replays_moved _ _ _ _ c.if-report-ne-SIZE.false c.if-area-ne65536.false c.lift-o.result c.lift-o.ensures os c.if-n-ne0.false c.replay-f.ensures (search rules) c.lay.ensures.link c.lay.ensures.slots
 
 pub returns : goal.returns
 returns c =
-    let os : Octets c.args.state.now = λ i. omega (arith, c.type_inv.state i) in
+    let os : Octets c.args.state.now = search rules in
     replays_stayed _ _ _ _ c.if-report-ne-SIZE.false c.if-area-ne65536.false c.lift-o.result c.lift-o.ensures os c.if-n-ne0.false c.replay-f.ensures (search rules) c.lay_link.ensures c.if-f.false

@@ -1,4 +1,4 @@
-use Rattle.std.proofs.Common.{rules, arith}
+use Rattle.std.proofs.Common.{rules}
 use Rattle.octets.specs.Reading.{Octets}
 use Rattle.hitchbarley.proofs.Passed.{stills_line}
 use Rattle.hitchbarley.proofs.Stilled.{still_not, still_laid}
@@ -9,10 +9,10 @@ returns-then-report-ne-SIZE c = search (rules, stills_line)
 
 pub returns-then-n-ne0 : goal.returns-then-n-ne0
 returns-then-n-ne0 c =
-    let os : Octets c.args.state.now = λ i. omega (arith, c.type_inv.state i) in
+    let os : Octets c.args.state.now = search rules in
     still_not _ _ os c.if-report-ne-SIZE.false c.still-s.ensures c.if-n-ne0.true
 
 pub returns : goal.returns
 returns c =
-    let os : Octets c.args.state.now = λ i. omega (arith, c.type_inv.state i) in
+    let os : Octets c.args.state.now = search rules in
     still_laid _ _ os c.if-report-ne-SIZE.false c.still-s.ensures c.if-n-ne0.false c.hush-f.ensures c.lay_link.ensures
