@@ -41,7 +41,6 @@ use Rattle.services.specs.declared.Service.{Service}
 use Rattle.service_writer.specs.Layout as ServiceWriter
 use Rattle.service_writer.specs.Fault as ServiceFault
 use Rattle.reader.specs.Reading.{step_of}
-use Rattle.reader.specs.declared.Reader.{Reader}
 use Rattle.reader.specs.declared.Step.{Step as ReaderStep}
 use Rattle.rebuild.specs.Calls as Rebuild
 use Rattle.rebuild.specs.declared.Slots.{Slots}
