@@ -47,7 +47,7 @@ pub struct Way {
 }
 
 // The octets written or the number of the refusal, and the number of segments, 0 where it is refused.
-#[derive(Drop)]
+#[derive(Clone, Copy)]
 pub struct Parted {
     pub answer: Written,
     pub segments: usize,

@@ -12,7 +12,7 @@ use frames::Outcome;
 use state::STORE;
 
 // The octets eaten, and what the last of them ended.
-#[derive(Drop)]
+#[derive(Clone, Copy)]
 pub struct Ate {
     pub eaten: usize,
     pub outcome: Outcome,

@@ -71,7 +71,7 @@ pub fn judge(area: &[u8]) -> u8
 }
 
 // What a silence wants of a state: 60, 59 or 0 with the link; store and slots stay in their place in the area.
-#[derive(Drop)]
+#[derive(Clone, Copy)]
 pub struct Silence {
     pub refused: u8,
     pub link: Link,
@@ -121,7 +121,7 @@ pub fn slots_at(area: &[u8]) -> Slots
 }
 
 // What lifting answers: 60, 59 or 0 with edition, link and slots; the store stays in its place in the area.
-#[derive(Drop)]
+#[derive(Clone, Copy)]
 pub struct Lifted {
     pub refused: u8,
     pub edition: Edition,
