@@ -9,18 +9,18 @@
 mod areas;
 mod asked;
 mod checks;
+mod one_trunk;
 mod print;
 mod receiver;
 mod text;
-mod trunk;
 mod writers;
 
 ghost use Rattle.std.specs.Prelude.{◌≤◌, length};
 
+use one_trunk::Sizes;
 use std::io::Read;
-use trunk::Sizes;
 
-// The number of the line's name: 0 to 9 are asked.rt's, 10 to 14 checks.rt's, 15 to 25 trunk.rt's, 26 and 27 writers.rt's; above where it is none of these.
+// The number of the line's name: 0 to 9 are asked.rt's, 10 to 14 checks.rt's, 15 to 25 one_trunk.rt's, 26 and 27 writers.rt's; above where it is none of these.
 fn name(s: &[u8]) -> u8 {
     text::index(
         s,
@@ -46,7 +46,7 @@ fn answer(
         return z;
     }
     if k < 26 {
-        return trunk::line(rt, k, s, z, state, area);
+        return one_trunk::line(rt, k, s, z, state, area);
     }
     if k < 28 {
         writers::line(rt, k, s);
