@@ -169,8 +169,8 @@ module _ (s : List ℕ) (os : Octets s) (p q x y : ℕ) (n : x ≡ y → ⊥) wh
   pub other_7 : x ≡ four_at s (p + 7) → y ≡ four_at s (q + 7) → address_at s p ≡ address_at s q → ⊥
   other_7 e d one = let f = four_behind s os p q one 7 (omega arith) (omega arith) in n (cc)
 
--- for `search (rules, address-ways)`
-pub ruleset address-ways = (other_1, other_5, other_7)
+-- for `search (rules, address_ways)`
+pub ruleset address_ways = (other_1, other_5, other_7)
 
 -- ---- its parts, laid one after the other
 pub address_laid : (area n : List ℕ) (a : Address) (at : ℕ) {l₁ l₂ : List ℕ} → at + address_size ≤ length area → length a.octets ≡ 7 → n ≡ number_octets a

@@ -129,8 +129,8 @@ module _ (o : List ℕ) where
           pub judge_unfair : s ≡ false → 59 ≡ judge_of o
           judge_unfair u = sym (judge_by (sym d ∙ u))
 
--- for `search (rules, judge-ways)`
-pub ruleset judge-ways = (judge_sized, judge_link, judge_edition, judge_free, judge_fair, judge_unfair)
+-- for `search (rules, judge_ways)`
+pub ruleset judge_ways = (judge_sized, judge_link, judge_edition, judge_free, judge_fair, judge_unfair)
 
 -- ---- for a silence: the number of a refusal, which is not 0, or 0 and the link
 module _ (o : List ℕ) (r : Silence) where

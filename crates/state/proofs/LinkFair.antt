@@ -90,5 +90,5 @@ module _ (o : List ℕ) where
   pub no_phase : 1 < oct o 0 → (oct o 0 ≡ 2 → ⊥) → (oct o 0 ≡ 3 → ⊥) → false ≡ link_fair o
   no_phase h a b = rw (link_judged_lem o, lt-leb (oct o 0) 1 h, ne_eqb (oct o 0) 2 a, ne_eqb (oct o 0) 3 b)
 
--- for `search (rules, link-ways)`
-pub ruleset link-ways = (early_fair, early_over, header_fair, header_over, data_none, data_over, data_fair, no_phase)
+-- for `search (rules, link_ways)`
+pub ruleset link_ways = (early_fair, early_over, header_fair, header_over, data_none, data_over, data_fair, no_phase)

@@ -61,8 +61,8 @@ pub free_apart : (o : List ℕ) (i j b : ℕ) → b ≡ slot_place j → oct o b
 unfolding apart
 free_apart o i j b q z = rw (slot_used o j b q, z)
 
--- for `search (rules, alike-ways)`
-pub ruleset alike-ways = (front_apart, free_apart)
+-- for `search (rules, alike_ways)`
+pub ruleset alike_ways = (front_apart, free_apart)
 
 -- ---- six pairs are all of them
 module _ (o : List ℕ) where

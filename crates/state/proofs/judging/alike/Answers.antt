@@ -1,12 +1,12 @@
 use Rattle.std.proofs.Common.{rules}
-use Rattle.state.proofs.Pairs.{alike-ways, from_apart, to_apart}
+use Rattle.state.proofs.Pairs.{alike_ways, from_apart, to_apart}
 use Rattle.state.proofs.judging.alike.Goals as goal
 
 pub returns-then-four : goal.returns-then-four
-returns-then-four c e = search (rules, alike-ways)
+returns-then-four c e = search (rules, alike_ways)
 
 pub returns-then-o-b-eq0 : goal.returns-then-o-b-eq0
-returns-then-o-b-eq0 c e = search (rules, alike-ways)
+returns-then-o-b-eq0 c e = search (rules, alike_ways)
 
 pub returns-then-one_address : goal.returns-then-one_address
 returns-then-one_address c e = to_apart _ _ _ _ _ c.slot_place-a.ensures c.slot_place-b.ensures (c.one_address-then-one_address.ensures e)

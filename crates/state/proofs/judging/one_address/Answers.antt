@@ -1,17 +1,17 @@
 use Rattle.std.proofs.Common.{arith, rules}
 use borrow.Author.Tests.{eqb-false}
 use Rattle.octets.specs.Reading.{Octets}
-use Rattle.state.proofs.Address.{address-ways}
+use Rattle.state.proofs.Address.{address_ways}
 use Rattle.state.proofs.judging.one_address.Goals as goal
 
 pub returns-then-four : goal.returns-then-four
-returns-then-four c e = let os : Octets c.args.o.now = λ i. omega (arith, c.type_inv.o i) in search (rules, address-ways)
+returns-then-four c e = let os : Octets c.args.o.now = λ i. omega (arith, c.type_inv.o i) in search (rules, address_ways)
 
 pub returns-then-four-2 : goal.returns-then-four-2
-returns-then-four-2 c e = let os : Octets c.args.o.now = λ i. omega (arith, c.type_inv.o i) in search (rules, address-ways)
+returns-then-four-2 c e = let os : Octets c.args.o.now = λ i. omega (arith, c.type_inv.o i) in search (rules, address_ways)
 
 pub returns : goal.returns
 returns c e =
     let os : Octets c.args.o.now = λ i. omega (arith, c.type_inv.o i) in
     let n = eqb-false c.four-5.result c.four-6.result e in
-    search (rules, address-ways)
+    search (rules, address_ways)
