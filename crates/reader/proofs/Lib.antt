@@ -4,3 +4,4 @@ pub mod Walking
 pub mod Onward
 pub mod Exact
 pub mod Rows
+pub mod Passed
