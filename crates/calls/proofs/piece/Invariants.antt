@@ -1,4 +1,4 @@
-use Rattle.std.proofs.Common.{◌-◌, ◌≡◌, ◌+◌, ◌*◌, ◌≤◌, ◌<◌, ℕ, length, get_or}
+use Rattle.std.proofs.Common.{◌-◌, length}
 use Rattle.calls.proofs.piece.Given as goal
 
 abbrev pub decreases-loop-i : goal.decreases-loop-i

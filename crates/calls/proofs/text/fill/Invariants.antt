@@ -1,4 +1,3 @@
-use Rattle.std.proofs.Common.{◌-◌, ◌≡◌, ◌+◌, ◌*◌, ◌≤◌, ◌<◌, ℕ, length, get_or}
 use Rattle.calls.proofs.text.fill.Given as goal
 
 abbrev pub decreases-loop-left : goal.decreases-loop-left

@@ -1,4 +1,4 @@
-use Rattle.std.proofs.Common.{◌-◌, ◌≡◌, ◌+◌, ◌*◌, ◌≤◌, ◌<◌, ℕ, length, get_or}
+use Rattle.std.proofs.Common.{◌-◌}
 use Rattle.calls.proofs.text.index.Given as goal
 
 abbrev pub decreases-loop-k : goal.decreases-loop-k
