@@ -19,7 +19,7 @@ use Rattle.state.specs.Edition.{edition_of}
 use Rattle.hitchbarley.specs.Writers as Exported
 use Rattle.hitchbarley.proofs.Demand.{octets_demand3}
 use Rattle.demands.specs.ExportedWriting.{RecordIs, way_in}
-use Rattle.demands.specs.ExportedWriting.RecordIs.{request, complex_ack_lem}
+use Rattle.demands.specs.ExportedWriting.RecordIs.{request, complex_ack}
 use Rattle.demands.specs.CutAndFed.{Framed, CutAndFramed, FramedOver, CutOver, CutAndFedOverOctets}
 use Rattle.demands.specs.CutAndFed.Framed.{none, next}
 use Rattle.demands.specs.CutAndFed.FramedOver.{none as none_over, next as next-over}
@@ -31,7 +31,7 @@ use Rattle.demands.proofs.CutAndFed.{read_whole}
 -- the window of a record
 record_window : {fields : List ℕ} {window : ℕ} {m : Message} → RecordIs fields window m → oct fields 9 ≡ window
 record_window (request seg mor sa nak srv size invoke number window choice reason accepts) = refl
-record_window (complex_ack_lem seg mor sa nak srv size invoke number window choice reason accepts) = refl
+record_window (complex_ack seg mor sa nak srv size invoke number window choice reason accepts) = refl
 
 -- frames written by hb_frame_write are written by the frame writer
 pub framed_below : {kind : ℕ → ℕ} {to from k : ℕ} {ds : List (List ℕ)} {fed : List ℕ} → FramedOver kind to from k ds fed → Framed kind to from k ds fed

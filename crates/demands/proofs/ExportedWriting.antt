@@ -32,7 +32,7 @@ use Rattle.hitchbarley.specs.Writers.{message_at, segmented, cut_fault}
 use Rattle.hitchbarley.proofs.Writers.{message_request, message_ack, kind_zero, kind_three, fault_same}
 use Rattle.demands.specs.Cutting.{CodeOver, SizeOver, ResultHas}
 use Rattle.demands.specs.ExportedWriting.{FrameWrite, ExportedFrameWrite, RecordIs, way_in, cut_call_rows, ExportedCut}
-use Rattle.demands.specs.ExportedWriting.RecordIs.{request, complex_ack_lem}
+use Rattle.demands.specs.ExportedWriting.RecordIs.{request, complex_ack}
 use Rattle.demands.specs.FrameWriting.{frame_size}
 use Rattle.demands.proofs.Rowed.{Judged, Short, clear_judged, row_past, refused_same, refused_not, answers_by, kept_by}
 use Rattle.demands.proofs.FrameWriting.{frame_writer_numbers}
@@ -104,13 +104,13 @@ module _ (o : List ℕ) where
   record_ack k z =
       subst (λ (s : List ℕ). RecordIs s (oct o 9) (message_at o)) (sym (thirteen k 3 z))
       (subst (RecordIs (3 ∷ octets_by 12 (λ i. oct o (suc i))) (oct o 9)) (message_ack o (λ y. omega (arith, y, z)))
-      (complex_ack_lem (oct o 1) (oct o 2) (oct o 3) (oct o 4) (oct o 5) (oct o 6) (oct o 7) (oct o 8) (oct o 9) (oct o 10) (oct o 11) (oct o 12)))
+      (complex_ack (oct o 1) (oct o 2) (oct o 3) (oct o 4) (oct o 5) (oct o 6) (oct o 7) (oct o 8) (oct o 9) (oct o 10) (oct o 11) (oct o 12)))
 
 -- no other message is
 pub record_one : {o : List ℕ} {window : ℕ} {m : Message} → RecordIs o window m → m ≡ message_at o
 unfolding message_at
 record_one (request seg mor sa nak srv size invoke number window choice reason accepts) = refl
-record_one (complex_ack_lem seg mor sa nak srv size invoke number window choice reason accepts) = refl
+record_one (complex_ack seg mor sa nak srv size invoke number window choice reason accepts) = refl
 
 -- ---- the words of rows may be put by their like
 record Like (t u : Table) : Type 0 where

@@ -31,7 +31,7 @@ use Rattle.collector.specs.Calls.{passing, slots_of, feed_refusal, silence_refus
 use Rattle.collector.specs.declared.Collector.{Collector}
 use Rattle.demands.specs.Words.{SixtyThenFiftyNine, BrokenReceiver, Headed, BrokenSlots, Broken, Four}
 use Rattle.demands.specs.Words.BrokenReceiver.{header_over, data_over, no_length, long_length}
-use Rattle.demands.specs.Words.BrokenSlots.{holds_over, one_key_lem, no_header}
+use Rattle.demands.specs.Words.BrokenSlots.{holds_over, one_key, no_header}
 use Rattle.demands.specs.Demands.{ReportSize, ReceiverFeedNumbers, ReceiverSilenceNumbers, FeedNumbers, SilenceNumbers, ForgetNumbers}
 
 -- a test that fails exactly where a fact holds
@@ -87,7 +87,7 @@ of_header h = record { head = h.head; valid = h.valid; fits = h.fits; source = h
 -- ---- the slots
 one_on : (t : Slot Key) (ts : List (Slot Key)) → BrokenSlots ts → BrokenSlots (t ∷ ts)
 one_on t ts (holds_over i l h) = holds_over (suc i) (omega arith) h
-one_on t ts (one_key_lem i j l m u v k) = one_key_lem (suc i) (suc j) (omega arith) (omega arith) u v k
+one_on t ts (one_key i j l m u v k) = one_key (suc i) (suc j) (omega arith) (omega arith) u v k
 one_on t ts (no_header i l u h) = no_header (suc i) (omega arith) u h
 
 -- an open slot that the test calls strange: no header gives its key
@@ -108,7 +108,7 @@ slots_broken (t ∷ ts) e =
         let at = some_true (lowest (open_to keys t.key) ts) (both_right t.used _ b) in
         let is = lowest_some (open_to keys t.key) (empty keys) ts at.0 at.1 in
         let x = slot_at keys ts at.0 in
-        one_key_lem 0 (suc at.0) (omega arith) (omega (arith, is.0)) (both_left t.used _ b) (both_left x.used _ is.1) (sym (key_laws.only x.key t.key (both_right x.used _ is.1)))
+        one_key 0 (suc at.0) (omega arith) (omega (arith, is.0)) (both_left t.used _ b) (both_left x.used _ is.1) (sym (key_laws.only x.key t.key (both_right x.used _ is.1)))
 
 -- of slots that pass none is strange
 none_strange : (s : List (Slot Key)) → sound keys s ≡ true → (i : ℕ) → i < length s → strange keys (slot_at keys s i) ≡ false
@@ -126,7 +126,7 @@ open_given t e u = by_test (keys.given t.key) (λ g. g) (λ g. never (sym (rw (g
 module _ (s : List (Slot Key)) (fits : (i : ℕ) → i < 4 → AddressFits (slot_at keys s i).key.from × AddressFits (slot_at keys s i).key.to) where
   passes_sound : passing s ≡ true → (a : List ℕ) → length a ≡ 65536 → BrokenSlots s → ⊥
   passes_sound p a z (holds_over i l h) = let g = (good_of_lem keys key_laws 4 s a p (eq-eqb _ _ z)).holds i l in omega arith
-  passes_sound p a z (one_key_lem i j l m u v k) = let e = (good_of_lem keys key_laws 4 s a p (eq-eqb _ _ z)).apart i j (omega arith) m u v k in omega arith
+  passes_sound p a z (one_key i j l m u v k) = let e = (good_of_lem keys key_laws 4 s a p (eq-eqb _ _ z)).apart i j (omega arith) m u v k in omega arith
   passes_sound p a z (no_header i l u h) =
       let n = eqb-true (length s) 4 (both_left (eqb (length s) 4) _ p) in
       let t = slot_at keys s i in

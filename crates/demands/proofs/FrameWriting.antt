@@ -24,7 +24,7 @@ use Rattle.messages.specs.Table.Table.{end, row}
 use Rattle.trunk.specs.Reading.{Out, held_of, came}
 use Rattle.trunk.specs.Reading.Out.{good}
 use Rattle.trunk.specs.Spans.{Whole}
-use Rattle.trunk.specs.Spans.Whole.{frame, bad_header_lem, too_long_lem, bad_data_lem, cut_header, cut_data}
+use Rattle.trunk.specs.Spans.Whole.{frame, bad_header, too_long, bad_data, cut_header, cut_data}
 use Rattle.trunk.proofs.Spans.{length_came}
 use Rattle.trunk.proofs.Laws.{outcomes_from}
 use Rattle.demands.specs.FrameWriting.{frame_size, HeadIs, FrameWriterNumbers, FramesReadBack, FramesWriteBack}
@@ -132,9 +132,9 @@ frame_laid h d (frame kind to from d' fits) e =
       fits = subst (λ (x : List ℕ). length x ≤ most) same fits;
       span = ap (λ (x : List ℕ). came (frame_octets kind to from x)) same;
     }
-frame_laid h d (bad_header_lem h' c lh bad) e = impossible (cc)
-frame_laid h d (too_long_lem h' lh long) e = impossible (cc)
-frame_laid h d (bad_data_lem h' d' a b o ld bad) e = impossible (cc)
+frame_laid h d (bad_header h' c lh bad) e = impossible (cc)
+frame_laid h d (too_long h' lh long) e = impossible (cc)
+frame_laid h d (bad_data h' d' a b o ld bad) e = impossible (cc)
 frame_laid h d (cut_header xs l) e = impossible (cc)
 frame_laid h d (cut_data h' xs o l) e = impossible (cc)
 

@@ -37,7 +37,7 @@ use Rattle.collector.specs.declared.heard.Parts.{Parts}
 use Rattle.collector.proofs.Content.{tags_good, tags_bad}
 use Rattle.demands.specs.Words.{address_in}
 use Rattle.demands.specs.Reported.{FiveOrSix, Behind, Carries, CarriesSegment, SegmentIs, SegmentReport, SegmentReported, kind4, kind5, kind6, invoke_in, choice_in, seg_in}
-use Rattle.demands.specs.Reported.CarriesSegment.{request, complex_ack_lem}
+use Rattle.demands.specs.Reported.CarriesSegment.{request, complex_ack}
 use Rattle.demands.proofs.FrameContent.{parts_told, parts_seg, parts_params, five_or_six, is_other, is_refused, is_network, is_bad, is_message, behind, segment_by}
 use Rattle.demands.proofs.FrameReports.{report_laid, unsegmented_none}
 
@@ -79,7 +79,7 @@ module _ (edition : Edition) (h d : List ℕ) where
   by_pdu {a} {t} (Request p) c q =
       by_test p.segment.seg (λ e. let k = sym q ∙ made_of (Request p) c e in request p t c e (cc)) (λ e. not_seg (Request p) c e q)
   by_pdu {a} {t} (ComplexAck p) c q =
-      by_test p.segment.seg (λ e. let k = sym q ∙ made_of (ComplexAck p) c e in complex_ack_lem p t c e (cc)) (λ e. not_seg (ComplexAck p) c e q)
+      by_test p.segment.seg (λ e. let k = sym q ∙ made_of (ComplexAck p) c e in complex_ack p t c e (cc)) (λ e. not_seg (ComplexAck p) c e q)
   by_pdu (Unconfirmed p) c q = not_seg (Unconfirmed p) c refl q
   by_pdu (SimpleAck p) c q = not_seg (SimpleAck p) c refl q
   by_pdu (SegmentAck p) c q = not_seg (SegmentAck p) c refl q
@@ -106,7 +106,7 @@ module _ (edition : Edition) (h d : List ℕ) where
   pub carried_is : {a : List ℕ} {g : Segment Key} → CarriesSegment edition h d a g → segment_at edition (good h d) ≡ some g
   unfolding parts_of
   carried_is (request p t c e q) = made_of (Request p) c e ∙ ap some (sym q)
-  carried_is (complex_ack_lem p t c e q) = made_of (ComplexAck p) c e ∙ ap some (sym q)
+  carried_is (complex_ack p t c e q) = made_of (ComplexAck p) c e ∙ ap some (sym q)
 
 pub segment_is : SegmentIs
 segment_is edition h d g = (λ q. (drop (read_npdu d).next d, carried edition h d q), λ k. carried_is edition h d k.1)
@@ -124,7 +124,7 @@ module _ (edition : Edition) (h d a : List ℕ) (g : Segment Key) where
   says : CarriesSegment edition h d a g → (m : Parts) × Says m
   says (request p t c e q) =
       (parts_of (Request p) (oct a 0), record { content = is_message edition h d c; names = parts_told (Request p) (oct a 0) ∙ ap (named a) (sym q) })
-  says (complex_ack_lem p t c e q) =
+  says (complex_ack p t c e q) =
       (parts_of (ComplexAck p) (oct a 0), record { content = is_message edition h d c; names = parts_told (ComplexAck p) (oct a 0) ∙ ap (named a) (sym q) })
 
   module _ (area : List ℕ) {m : Parts} (k : Says m) where

@@ -230,7 +230,7 @@ pub record Contracts : Type 0 where
       → Contract (replay_call.Pre (κ1, (κ2, (κ3, tt))) (c, (records, (report, (area, tt))))) (replay_call.Post (κ1, (κ2, (κ3, tt))) (c, (records, (report, (area, tt)))) r (c, (records, (report', (area', tt)))))
       (Plays c report.now area.now records.now r report'.now area'.now)
 
--- the calls that C and Rust link, as hitchbarley has them: hitchbarley_c, which no crate can stand on, holds its exports to the same laws (proofs/Exports)
+-- the calls that C and Rust link, as hitchbarley has them: hitchbarley_c, which no crate can stand on, shows that its exports promise the same (proofs/Exports)
 pub record ExportedContracts : Type 0 where
   pub hb_header_check : (κ1 : Lft) (head : Bor (List ℕ)) (r : ℕ)
       → Contract (hb_header_check_call.Pre (κ1, tt) (head, tt)) (hb_header_check_call.Post (κ1, tt) (head, tt) r (head, tt))

@@ -39,7 +39,7 @@ pub data RecordIs : List ℕ → (window : ℕ) → Message → Type 0 where
   request : (seg mor sa nak srv size invoke number window choice reason accepts : ℕ)
       → RecordIs (0 ∷ seg ∷ mor ∷ sa ∷ nak ∷ srv ∷ size ∷ invoke ∷ number ∷ window ∷ choice ∷ reason ∷ accepts ∷ []) window
       (Request (record { sa = ltb 0 sa; size = size; invoke = invoke; choice = choice; accepts = accepts }))
-  complex_ack_lem : (seg mor sa nak srv size invoke number window choice reason accepts : ℕ)
+  complex_ack : (seg mor sa nak srv size invoke number window choice reason accepts : ℕ)
       → RecordIs (3 ∷ seg ∷ mor ∷ sa ∷ nak ∷ srv ∷ size ∷ invoke ∷ number ∷ window ∷ choice ∷ reason ∷ accepts ∷ []) window
       (ComplexAck (record { invoke = invoke; choice = choice }))
 

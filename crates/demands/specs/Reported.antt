@@ -169,7 +169,7 @@ segment_of h n type invoke s choice t =
 pub data CarriesSegment (e : Edition) (h d a : List ℕ) (g : Segment Key) : Type 0 where
   request : (p : RequestPdu) (t : List ℕ) (c : Carries e h d a (Request p) t) → p.segment.seg ≡ true
       → g ≡ segment_of h c.behind.head 0 p.invoke p.segment p.choice t → CarriesSegment e h d a g
-  complex_ack_lem : (p : ComplexAckPdu) (t : List ℕ) (c : Carries e h d a (ComplexAck p) t) → p.segment.seg ≡ true
+  complex_ack : (p : ComplexAckPdu) (t : List ℕ) (c : Carries e h d a (ComplexAck p) t) → p.segment.seg ≡ true
       → g ≡ segment_of h c.behind.head 3 p.invoke p.segment p.choice t → CarriesSegment e h d a g
 
 -- g is the segment that it carries exactly when these words say so

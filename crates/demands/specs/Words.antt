@@ -80,7 +80,7 @@ pub record Headed (k : Key) : Type 0 where
 -- "a slot holding over 16,384, or two open slots of one key", and "an open slot whose addresses no network header gives": no header that keeps the rules has them
 pub data BrokenSlots (s : List (Slot Key)) : Type 0 where
   holds_over : (i : ℕ) → i < length s → room < (slot_at keys s i).held → BrokenSlots s
-  one_key_lem : (i j : ℕ) → i < j → j < length s → (slot_at keys s i).used ≡ true → (slot_at keys s j).used ≡ true → (slot_at keys s i).key ≡ (slot_at keys s j).key → BrokenSlots s
+  one_key : (i j : ℕ) → i < j → j < length s → (slot_at keys s i).used ≡ true → (slot_at keys s j).used ≡ true → (slot_at keys s i).key ≡ (slot_at keys s j).key → BrokenSlots s
   no_header : (i : ℕ) → i < length s → (slot_at keys s i).used ≡ true → (Headed (slot_at keys s i).key → ⊥) → BrokenSlots s
 
 abbrev pub Broken : Collector → Type 0

@@ -17,7 +17,7 @@ use Rattle.collector.specs.Offering.{WithArea, calls}
 use Rattle.collector.proofs.Alike.{Boxed, seen, SeenIn, calling}
 use Rattle.playback.specs.Calls.{one, then_go, play, Ready}
 use Rattle.playback.specs.Offering.{OneByOne}
-use Rattle.playback.specs.Offering.OneByOne.{none_left, reports, and_then_lem}
+use Rattle.playback.specs.Offering.OneByOne.{none_left, reports, and_then}
 use Rattle.playback.proofs.Readiness.{ReadyAt, one_ready}
 use Rattle.playback.proofs.Chains.{at_box, one_eaten}
 use Rattle.playback.proofs.Demand.{ReadySeen}
@@ -53,7 +53,7 @@ Eats s run d = (t : WithArea) × OneByOne s (take d.eaten run) d.said t × SeenI
 eats_go : (x : Option (List ℕ)) (s t : WithArea) (y : Order) (run : Run) (d e : Answered) → Made calls s (y ∷ []) 1 x t → SeenIn s.0.edition t (at_box d) → Eats t run e → Eats s (y ∷ run) (then_go x d e)
 eats_go none s t y run d e m q w =
     let z : suc e.eaten ≡ 1 + e.eaten = omega arith in
-    (w.0, subst (λ (n : ℕ). OneByOne s (take n (y ∷ run)) e.said w.0) z (and_then_lem y (take e.eaten run) m w.1), (w.2.0 ∙ q.0, w.2.1))
+    (w.0, subst (λ (n : ℕ). OneByOne s (take n (y ∷ run)) e.said w.0) z (and_then y (take e.eaten run) m w.1), (w.2.0 ∙ q.0, w.2.1))
 eats_go (some r) s t y run d e m q w = (t, reports y m, q)
 
 pub play_eats : (run : Run) (s : WithArea) → ReadySeen s → Eats s run (play_at s.0.edition (seen s) run)

@@ -37,4 +37,4 @@ Replayed p c area run e = (d : Collector) × Offer replaying p (c, area) run e.r
 pub data OneByOne : WithArea → Run → Option (List ℕ) → WithArea → Type 0 where
   none_left : {s : WithArea} → OneByOne s [] none s
   reports : {s t : WithArea} {report : List ℕ} (y : Order) → Made calls s (y ∷ []) 1 (some report) t → OneByOne s (y ∷ []) (some report) t
-  and_then_lem : {s t u : WithArea} {said : Option (List ℕ)} (y : Order) (run : Run) → Made calls s (y ∷ []) 1 none t → OneByOne t run said u → OneByOne s (y ∷ run) said u
+  and_then : {s t u : WithArea} {said : Option (List ℕ)} (y : Order) (run : Run) → Made calls s (y ∷ []) 1 none t → OneByOne t run said u → OneByOne s (y ∷ run) said u

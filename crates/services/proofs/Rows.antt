@@ -22,7 +22,7 @@ use Rattle.services.specs.Shows.{For, message_of, ValidFor}
 use Rattle.services.specs.Rows.{number_in, Wanted, any, target, LaidOut, Given}
 use Rattle.services.specs.Rows.Rule.{number, object, object_of}
 use Rattle.services.specs.Rows.Wanted.{in_context, of_type, group, optional, limits}
-use Rattle.services.specs.Rows.LaidOut.{read_property_lem, read_property_ack_lem, write_property_lem, who_is_lem, i_am_lem, error_of_lem}
+use Rattle.services.specs.Rows.LaidOut.{read_property as laid_read_property, read_property_ack as laid_read_property_ack, write_property as laid_write_property, who_is as laid_who_is, i_am as laid_i_am, error_of as laid_error_of}
 use Rattle.services.specs.Rows.Given.{offended, no_layout}
 use Rattle.services.specs.declared.Answer.{Answer}
 use Rattle.services.specs.declared.Answer.TheVariants.{Good, Refused}
@@ -110,30 +110,30 @@ module _ (o : List ℕ) (ts : List Thing) (h : Here o 0 ts) where
 
   laid_says : (kind choice : ℕ) (ws : List Wanted) → LaidOut kind choice ws → Says ws ts (layout_for kind choice o (records_from 0 0 ts))
   unfolding layout_for
-  laid_says kind choice ws (read_property_lem k c w) = rw (k, c, w) property_says
-  laid_says kind choice ws (read_property_ack_lem k c w) = rw (k, c, w) ack_says
-  laid_says kind choice ws (write_property_lem k c w) = rw (k, c, w) write_says
-  laid_says kind choice ws (who_is_lem k c w) = rw (k, c, w) who_says
-  laid_says kind choice ws (i_am_lem k c w) = rw (k, c, w) am_says
-  laid_says kind choice ws (error_of_lem k (inl c) w) = rw (k, c, w) error_says
-  laid_says kind choice ws (error_of_lem k (inr c) w) = rw (k, c, w) error_says
+  laid_says kind choice ws (laid_read_property k c w) = rw (k, c, w) property_says
+  laid_says kind choice ws (laid_read_property_ack k c w) = rw (k, c, w) ack_says
+  laid_says kind choice ws (laid_write_property k c w) = rw (k, c, w) write_says
+  laid_says kind choice ws (laid_who_is k c w) = rw (k, c, w) who_says
+  laid_says kind choice ws (laid_i_am k c w) = rw (k, c, w) am_says
+  laid_says kind choice ws (laid_error_of k (inl c) w) = rw (k, c, w) error_says
+  laid_says kind choice ws (laid_error_of k (inr c) w) = rw (k, c, w) error_says
 
 -- ---- a kind and choice that has a message has a layout, and the other way round
 for_laid : (kind choice : ℕ) (m : Message) → For kind choice m → (ws : List Wanted) × LaidOut kind choice ws
-for_laid kind choice (read_property t) (k, c) = (_, read_property_lem k c refl)
-for_laid kind choice (read_property_ack t ts) (k, c) = (_, read_property_ack_lem k c refl)
-for_laid kind choice (write_property t ts ranked priority) (k, c) = (_, write_property_lem k c refl)
-for_laid kind choice (who_is limited low high) (k, c) = (_, who_is_lem k c refl)
-for_laid kind choice (i_am instance longest segmentation vendor) (k, c) = (_, i_am_lem k c refl)
-for_laid kind choice (error_of class code) (k, c) = (_, error_of_lem k c refl)
+for_laid kind choice (read_property t) (k, c) = (_, laid_read_property k c refl)
+for_laid kind choice (read_property_ack t ts) (k, c) = (_, laid_read_property_ack k c refl)
+for_laid kind choice (write_property t ts ranked priority) (k, c) = (_, laid_write_property k c refl)
+for_laid kind choice (who_is limited low high) (k, c) = (_, laid_who_is k c refl)
+for_laid kind choice (i_am instance longest segmentation vendor) (k, c) = (_, laid_i_am k c refl)
+for_laid kind choice (error_of class code) (k, c) = (_, laid_error_of k c refl)
 
 laid_for : (kind choice : ℕ) (ws : List Wanted) → LaidOut kind choice ws → (m : Message) × For kind choice m
-laid_for kind choice ws (read_property_lem k c w) = (read_property nowhere, (k, c))
-laid_for kind choice ws (read_property_ack_lem k c w) = (read_property_ack nowhere [], (k, c))
-laid_for kind choice ws (write_property_lem k c w) = (write_property nowhere [] false 0, (k, c))
-laid_for kind choice ws (who_is_lem k c w) = (who_is false 0 0, (k, c))
-laid_for kind choice ws (i_am_lem k c w) = (i_am 0 0 0 0, (k, c))
-laid_for kind choice ws (error_of_lem k c w) = (error_of 0 0, (k, c))
+laid_for kind choice ws (laid_read_property k c w) = (read_property nowhere, (k, c))
+laid_for kind choice ws (laid_read_property_ack k c w) = (read_property_ack nowhere [], (k, c))
+laid_for kind choice ws (laid_write_property k c w) = (write_property nowhere [] false 0, (k, c))
+laid_for kind choice ws (laid_who_is k c w) = (who_is false 0 0, (k, c))
+laid_for kind choice ws (laid_i_am k c w) = (i_am 0 0 0 0, (k, c))
+laid_for kind choice ws (laid_error_of k c w) = (error_of 0 0, (k, c))
 
 -- ---- octets that are these items
 module _ (kind choice : ℕ) (o : List ℕ) (os : Octets o) (ts : List Thing) (r : Reads o ts) where

@@ -68,17 +68,17 @@ target = in_context 0 object ∷ in_context 1 any ∷ optional 2 any ∷ []
 -- the layout of a kind of PDU (0 confirmed request, 1 unconfirmed, 3 complex ack, 5 error) and a choice
 pub data LaidOut (kind choice : ℕ) (ws : List Wanted) : Type 0 where
   -- "ReadProperty 12, request"
-  read_property_lem : kind ≡ 0 → choice ≡ 12 → ws ≡ target → LaidOut kind choice ws
+  read_property : kind ≡ 0 → choice ≡ 12 → ws ≡ target → LaidOut kind choice ws
   -- "Its ack adds a group 3, the value, possibly empty."
-  read_property_ack_lem : kind ≡ 3 → choice ≡ 12 → ws ≡ target ++ (group 3 ∷ []) → LaidOut kind choice ws
+  read_property_ack : kind ≡ 3 → choice ≡ 12 → ws ≡ target ++ (group 3 ∷ []) → LaidOut kind choice ws
   -- "WriteProperty 15: as the ack, with optional context 4 priority 1 to 16."
-  write_property_lem : kind ≡ 0 → choice ≡ 15 → ws ≡ target ++ (group 3 ∷ optional 4 (number 1 16) ∷ []) → LaidOut kind choice ws
+  write_property : kind ≡ 0 → choice ≡ 15 → ws ≡ target ++ (group 3 ∷ optional 4 (number 1 16) ∷ []) → LaidOut kind choice ws
   -- "Who-Is 8"
-  who_is_lem : kind ≡ 1 → choice ≡ 8 → ws ≡ limits ∷ [] → LaidOut kind choice ws
+  who_is : kind ≡ 1 → choice ≡ 8 → ws ≡ limits ∷ [] → LaidOut kind choice ws
   -- "I-Am 0: application object of type 8, unsigned, enumerated 0 to 3, unsigned to 65535."
-  i_am_lem : kind ≡ 1 → choice ≡ 0 → ws ≡ of_type 12 (object_of 8) ∷ of_type 2 any ∷ of_type 9 (number 0 3) ∷ of_type 2 (number 0 65535) ∷ [] → LaidOut kind choice ws
+  i_am : kind ≡ 1 → choice ≡ 0 → ws ≡ of_type 12 (object_of 8) ∷ of_type 2 any ∷ of_type 9 (number 0 3) ∷ of_type 2 (number 0 65535) ∷ [] → LaidOut kind choice ws
   -- "Error for 12 or 15: two application enumerated."
-  error_of_lem : kind ≡ 5 → (choice ≡ 12) ⊎ (choice ≡ 15) → ws ≡ of_type 9 any ∷ of_type 9 any ∷ [] → LaidOut kind choice ws
+  error_of : kind ≡ 5 → (choice ≡ 12) ⊎ (choice ≡ 15) → ws ≡ of_type 9 any ∷ of_type 9 any ∷ [] → LaidOut kind choice ws
 
 -- ---- the next part and the next item
 -- the item that a part begins with: of its kind and number, with these contents

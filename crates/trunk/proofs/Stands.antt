@@ -21,7 +21,7 @@ use Rattle.trunk.specs.Reading.{Out, Kept, laid, with_head, with_data, ends55, s
 use Rattle.trunk.specs.Reading.Out.{good, damage}
 use Rattle.trunk.specs.Reading.Span.{full, cut}
 use Rattle.trunk.specs.Spans.{Bytes, NoPreamble, headed, Opens, Whole}
-use Rattle.trunk.specs.Spans.Whole.{frame, bad_header_lem, too_long_lem, bad_data_lem, cut_header, cut_data}
+use Rattle.trunk.specs.Spans.Whole.{frame, bad_header, too_long, bad_data, cut_header, cut_data}
 use Rattle.trunk.proofs.Spans.{kept, came_append, length_came}
 use Rattle.trunk.proofs.Recording.{bytes_came, octets_left, octets_right, length_head_of, length_of_head_of}
 use Rattle.trunk.proofs.Noise.{find_behind}
@@ -220,9 +220,9 @@ module _ (w : Kept) (lw : length w.head ≡ 5) (ls : length w.store ≡ most) wh
 
   pub tells : {xs : List Event} {o : Out} (more : List Event) → Whole xs o → Bytes (xs ++ more) → Tells w xs o
   tells more (frame kind to from d fits) bs = tells_frame kind to from d fits (bytes_came (frame_octets kind to from d) more bs)
-  tells more (bad_header_lem h c lh bad) bs = tells_wrong_header h c lh bad (bytes_came (0x55 ∷ 0xFF ∷ (h ++ (c ∷ []))) more bs)
-  tells more (too_long_lem h lh long) bs = tells_too_long h lh long
-  tells more (bad_data_lem h d a b o ld bad) bs = tells_wrong_data h d a b o ld bad (bytes_came (headed h (d ++ (a ∷ b ∷ []))) more bs)
+  tells more (bad_header h c lh bad) bs = tells_wrong_header h c lh bad (bytes_came (0x55 ∷ 0xFF ∷ (h ++ (c ∷ []))) more bs)
+  tells more (too_long h lh long) bs = tells_too_long h lh long
+  tells more (bad_data h d a b o ld bad) bs = tells_wrong_data h d a b o ld bad (bytes_came (headed h (d ++ (a ∷ b ∷ []))) more bs)
   tells more (cut_header xs l) bs = tells_cut_header xs l
   tells more (cut_data h xs o l) bs = tells_cut_data h xs o l
 
@@ -241,17 +241,17 @@ passed {w} {xs} t n np m p z more e =
 pub whole_some : {xs : List Event} {o : Out} → Whole xs o → 0 < length xs
 unfolding frame_octets
 whole_some (frame kind to from d fits) = omega arith
-whole_some (bad_header_lem h c lh bad) = omega arith
-whole_some (too_long_lem h lh long) = omega arith
-whole_some (bad_data_lem h d a b o ld bad) = omega arith
+whole_some (bad_header h c lh bad) = omega arith
+whole_some (too_long h lh long) = omega arith
+whole_some (bad_data h d a b o ld bad) = omega arith
 whole_some (cut_header xs l) = omega arith
 whole_some (cut_data h xs o l) = omega arith
 
 -- a span's damage has one of the four numbers
 pub whole_number : {xs : List Event} {o : Out} → Whole xs o → (n : ℕ) → o ≡ damage n → (0 < n) × (n ≤ 4)
 whole_number (frame kind to from d fits) n e = impossible (cc)
-whole_number (bad_header_lem h c lh bad) n e = let i : n ≡ 1 = cc in (omega arith, omega arith)
-whole_number (too_long_lem h lh long) n e = let i : n ≡ 2 = cc in (omega arith, omega arith)
-whole_number (bad_data_lem h d a b o ld bad) n e = let i : n ≡ 3 = cc in (omega arith, omega arith)
+whole_number (bad_header h c lh bad) n e = let i : n ≡ 1 = cc in (omega arith, omega arith)
+whole_number (too_long h lh long) n e = let i : n ≡ 2 = cc in (omega arith, omega arith)
+whole_number (bad_data h d a b o ld bad) n e = let i : n ≡ 3 = cc in (omega arith, omega arith)
 whole_number (cut_header xs l) n e = let i : n ≡ 4 = cc in (omega arith, omega arith)
 whole_number (cut_data h xs o l) n e = let i : n ≡ 4 = cc in (omega arith, omega arith)

@@ -27,7 +27,7 @@ use Rattle.trunk.specs.Reading.{after_data, judged, after_header, after_found, r
 use Rattle.trunk.specs.Reading.Out.{good, damage}
 use Rattle.trunk.specs.Reading.Span.{full, cut, open_ended}
 use Rattle.trunk.specs.Spans.{Bytes, NoPreamble, headed, Opens, Whole, Free}
-use Rattle.trunk.specs.Spans.Whole.{frame, bad_header_lem, too_long_lem, bad_data_lem, cut_header, cut_data}
+use Rattle.trunk.specs.Spans.Whole.{frame, bad_header, too_long, bad_data, cut_header, cut_data}
 use Rattle.trunk.specs.Spans.Free.{noise, behind}
 use Rattle.trunk.proofs.Spans.{length_came}
 use Rattle.trunk.proofs.Recording.{bytes_came, bytes_behind, octets_left, octets_right, five}
@@ -105,7 +105,7 @@ module _ (h xs : List ℕ) (o : Opens h) (l : length xs ≡ length_of h + 1 + 1)
   wrong_data : (data_run data_start xs ≡ data_left → ⊥) → Whole (came (headed h xs)) (damage 3)
   wrong_data bad =
       subst (λ (b : List ℕ). Whole (came (headed h b)) (damage 3)) (sym parts)
-      (bad_data_lem h body first second o body_length (λ e. bad (ap (data_run data_start) (parts ∙ ap (λ (b : List ℕ). body ++ b) e) ∙ data_good body body_octets)))
+      (bad_data h body first second o body_length (λ e. bad (ap (data_run data_start) (parts ∙ ap (λ (b : List ℕ). body ++ b) e) ∙ data_good body body_octets)))
 
   data_whole : Whole (came (headed h xs)) (pick (eqb (data_run data_start xs) data_left) (good h body) (damage 3))
   data_whole =
@@ -208,7 +208,7 @@ module _ (k : Read) (sees : (z : ℕ) (v : Kept) (more : List Event) → length 
       let os : Octets (headed h []) = bytes_came (headed h []) more (bytes_behind n (came (headed h []) ++ more) (subst Bytes stands bs)) in
       let oh : Octets h = octets_left h (header_check h ∷ []) (λ i. os (suc (suc i))) in
       pick_cases (Sees p es) (ltb most (length_of h))
-      (λ t. seen q (came (headed h [])) more w lh (too_long_lem h lh (ltb-true most (length_of h) t)) stands (omega arith))
+      (λ t. seen q (came (headed h [])) more w lh (too_long h lh (ltb-true most (length_of h) t)) stands (omega arith))
       (λ t. pick_cases (Sees p es) (eqb (length_of h) 0)
       (λ z. seen q (came (headed h [])) more w lh (frame_whole h [] lh oh (eqb-true (length_of h) 0 z) (omega arith)) stands (omega arith))
       (λ z.
@@ -227,7 +227,7 @@ module _ (k : Read) (sees : (z : ℕ) (v : Kept) (more : List Event) → length 
       let test = eqb (header_run header_start six) header_left in
       pick_cases (Sees p es) (non test)
       (λ t. seen q (came (0x55 ∷ 0xFF ∷ six)) more w lh
-      (bad_header_lem h c lh
+      (bad_header h c lh
       (λ e. eqb-false (header_run header_start six) header_left (non_true test t) (ap (λ (c : ℕ). header_run header_start (h ++ (c ∷ []))) e ∙ header_good h)))
       stands (omega arith))
       (λ t.
