@@ -1,4 +1,5 @@
 -- A header that keeps the rules is read as itself, whatever parameters follow.
+use Rattle.std.specs.Prelude.{Ok}
 use Prim.Native.Nat.{ℕ, ◌+◌, ◌*◌, ◌/◌, ◌%◌, ◌<◌}
 use native.Mathlib.Omega.{arith}
 use mathlib.Core.Path.{◌≡◌, refl, sym, ◌∙◌}
@@ -23,8 +24,6 @@ use Rattle.apdu.specs.declared.ErrorPdu.{ErrorPdu}
 use Rattle.apdu.specs.declared.RejectPdu.{RejectPdu}
 use Rattle.apdu.specs.declared.Pdu.{Pdu}
 use Rattle.apdu.specs.declared.Pdu.TheVariants.{Request, Unconfirmed, SimpleAck, ComplexAck, SegmentAck, Error, Reject, Abort}
-use Rattle.apdu.specs.declared.Answer.TheVariants.{Good}
-use Rattle.apdu.specs.declared.kinds.Tail.TheVariants.{Part}
 use Rattle.apdu.specs.Editions.{most}
 use Rattle.apdu.specs.Reading.{read_apdu, read_tail, read_request, read_unconfirmed, read_simple_ack, read_complex_ack, read_segment_ack, read_error, read_reject, read_abort, bit3, bit2}
 use Rattle.apdu.specs.Layout.{segment, flag, first_octet, size_octet, tail, header}
@@ -44,7 +43,7 @@ after a b t =
     has_left s (length a) b t (rw length-append (omega arith)) k
 
 tail_at : (s : List ℕ) (at : ℕ) (seg mor : Bool) (number window choice : ℕ) → SegmentRules (segment seg mor number window) → bit3 (oct s 0) ≡ seg → bit2 (oct s 0) ≡ mor
-    → Has s at (tail (segment seg mor number window) choice) → read_tail s at ≡ Part (segment seg mor number window) choice
+    → Has s at (tail (segment seg mor number window) choice) → read_tail s at ≡ Ok (segment seg mor number window, choice)
 unfolding read_tail tail given
 tail_at s at true mor number window choice r e d h =
     let w = r.window refl in
@@ -54,11 +53,11 @@ tail_at s at true mor number window choice r e d h =
 tail_at s at false mor number window choice r e d h =
     simp (e, d, h.1, (r.absent refl).0, (r.absent refl).1, lt-leb (length s) at h.0)
 
-tail_back : (s : List ℕ) (at : ℕ) (g : Segment) (choice : ℕ) → SegmentRules g → bit3 (oct s 0) ≡ g.seg → bit2 (oct s 0) ≡ g.mor → Has s at (tail g choice) → read_tail s at ≡ Part g choice
+tail_back : (s : List ℕ) (at : ℕ) (g : Segment) (choice : ℕ) → SegmentRules g → bit3 (oct s 0) ≡ g.seg → bit2 (oct s 0) ≡ g.mor → Has s at (tail g choice) → read_tail s at ≡ Ok (g, choice)
 tail_back s at g choice = tail_at s at g.seg g.mor g.number g.window choice
 
 module _ (edition : Edition) where
-  request : (p : RequestPdu) (t : List ℕ) → Rules edition (Request p) → read_apdu edition (header (Request p) ++ t) ≡ Good (Request p)
+  request : (p : RequestPdu) (t : List ℕ) → Rules edition (Request p) → read_apdu edition (header (Request p) ++ t) ≡ Ok (Request p)
   unfolding read_apdu read_request
   request p t r =
       let g = p.segment in
@@ -83,15 +82,15 @@ module _ (edition : Edition) where
         tail_back s 3 g p.choice r.2 f.third f.second (after front (tail g p.choice) t),
       )
 
-  unconfirmed : (p : UnconfirmedPdu) (t : List ℕ) → read_apdu edition (header (Unconfirmed p) ++ t) ≡ Good (Unconfirmed p)
+  unconfirmed : (p : UnconfirmedPdu) (t : List ℕ) → read_apdu edition (header (Unconfirmed p) ++ t) ≡ Ok (Unconfirmed p)
   unfolding read_apdu read_unconfirmed first_octet flag given
   unconfirmed p t = let o = header (Unconfirmed p) in simp (there o t 0 (omega arith), there o t 1 (omega arith))
 
-  simple_ack_lem : (p : SimpleAckPdu) → read_apdu edition (header (SimpleAck p)) ≡ Good (SimpleAck p)
+  simple_ack_lem : (p : SimpleAckPdu) → read_apdu edition (header (SimpleAck p)) ≡ Ok (SimpleAck p)
   unfolding read_apdu read_simple_ack first_octet flag given
   simple_ack_lem p = refl
 
-  complex_ack_lem : (p : ComplexAckPdu) (t : List ℕ) → Rules edition (ComplexAck p) → read_apdu edition (header (ComplexAck p) ++ t) ≡ Good (ComplexAck p)
+  complex_ack_lem : (p : ComplexAckPdu) (t : List ℕ) → Rules edition (ComplexAck p) → read_apdu edition (header (ComplexAck p) ++ t) ≡ Ok (ComplexAck p)
   unfolding read_apdu read_complex_ack
   complex_ack_lem p t r =
       let g = p.segment in
@@ -108,7 +107,7 @@ module _ (edition : Edition) where
         tail_back s 2 g p.choice r f.third f.second (after front (tail g p.choice) t),
       )
 
-  segment_ack_lem : (p : SegmentAckPdu) → Rules edition (SegmentAck p) → read_apdu edition (header (SegmentAck p)) ≡ Good (SegmentAck p)
+  segment_ack_lem : (p : SegmentAckPdu) → Rules edition (SegmentAck p) → read_apdu edition (header (SegmentAck p)) ≡ Ok (SegmentAck p)
   unfolding read_apdu read_segment_ack
   segment_ack_lem p w =
       let f = parts_of_lem 4 false false p.nak p.srv in
@@ -122,15 +121,15 @@ module _ (edition : Edition) where
         le-ltb 127 p.window w.1,
       )
 
-  error : (p : ErrorPdu) (t : List ℕ) → read_apdu edition (header (Error p) ++ t) ≡ Good (Error p)
+  error : (p : ErrorPdu) (t : List ℕ) → read_apdu edition (header (Error p) ++ t) ≡ Ok (Error p)
   unfolding read_apdu read_error first_octet flag given
   error p t = let o = header (Error p) in simp (there o t 0 (omega arith), there o t 2 (omega arith))
 
-  reject : (p : RejectPdu) → read_apdu edition (header (Reject p)) ≡ Good (Reject p)
+  reject : (p : RejectPdu) → read_apdu edition (header (Reject p)) ≡ Ok (Reject p)
   unfolding read_apdu read_reject first_octet flag given
   reject p = refl
 
-  abort : (p : AbortPdu) → read_apdu edition (header (Abort p)) ≡ Good (Abort p)
+  abort : (p : AbortPdu) → read_apdu edition (header (Abort p)) ≡ Ok (Abort p)
   unfolding read_apdu read_abort
   abort p =
       let f = parts_of_lem 7 false false false p.srv in
@@ -138,7 +137,7 @@ module _ (edition : Edition) where
       simp (f.kind, le-ltb 1 (x % 16) (omega (arith, below3 x f.third, below2 x f.second, below1 x f.first)), f.last)
 
   -- all eight
-  pub reads_back : (p : Pdu) (t : List ℕ) → Rules edition p → Follows p t → read_apdu edition (header p ++ t) ≡ Good p
+  pub reads_back : (p : Pdu) (t : List ℕ) → Rules edition p → Follows p t → read_apdu edition (header p ++ t) ≡ Ok p
   reads_back (Request p) t r e = request p t r
   reads_back (Unconfirmed p) t r e = unconfirmed p t
   reads_back (SimpleAck p) t r e = rw e (simple_ack_lem p)

@@ -1,4 +1,5 @@
 -- The two editions compared. What two editions say alike, and what an edition says of a code above its own, is said over any edition.
+use Rattle.std.specs.Prelude.{Ok, Err}
 use Prim.Native.Nat.{ℕ, zero, suc, ◌+◌, ◌*◌, ◌/◌, ◌%◌, ◌≤◌, ◌<◌}
 use native.Mathlib.Omega.{arith}
 use mathlib.Core.Path.{◌≡◌, refl, sym, ap, ◌∙◌}
@@ -14,9 +15,8 @@ use Rattle.apdu.specs.declared.Edition.{Edition}
 use Rattle.apdu.specs.declared.Edition.TheVariants.{First, Later}
 use Rattle.apdu.specs.declared.Pdu.{Pdu}
 use Rattle.apdu.specs.declared.Pdu.TheVariants.{Request, Unconfirmed, SimpleAck, ComplexAck, SegmentAck, Error, Reject, Abort}
-use Rattle.apdu.specs.declared.Answer.TheVariants.{Good, Refused}
 use Rattle.apdu.specs.Editions.{most, code_of}
-use Rattle.apdu.specs.Reading.{read_apdu, read_request, mor_without_seg}
+use Rattle.apdu.specs.Reading.{Answer, read_apdu, read_request, mor_without_seg}
 use Rattle.apdu.specs.Fault.{fault_of}
 use Rattle.apdu.specs.Rows.{Bit, UpperZero}
 use Rattle.apdu.specs.EditionsCompared.{UpperSet, ReadingsCompared, FaultsCompared, UpperBits}
@@ -41,11 +41,11 @@ module _ (e d : Edition) (s : List ℕ) where
 
 -- ---- any edition: a request with a code above its own is 22, whatever the first octet; what it writes has a code of its own
 module _ (e : Edition) where
-  above : (s : List ℕ) → 1 < length s → oct s 0 / 16 ≡ 0 → most e < oct s 1 / 16 → read_apdu e s ≡ Refused 22
+  above : (s : List ℕ) → 1 < length s → oct s 0 / 16 ≡ 0 → most e < oct s 1 / 16 → read_apdu e s ≡ Err 22
   unfolding read_request
   above s l k h =
       as_request e s (omega arith) k
-      ∙ rw (lt-leb (length s) 1 l, lt-ltb (most e) (oct s 1 / 16) h, pick_same (mor_without_seg (oct s 0)) (Refused 22)) (pick_same (ltb 0 (oct s 0 % 2)) (Refused 22))
+      ∙ rw (lt-leb (length s) 1 l, lt-ltb (most e) (oct s 1 / 16) h, pick_same {A = Answer} (mor_without_seg (oct s 0)) (Err 22)) (pick_same {A = Answer} (ltb 0 (oct s 0 % 2)) (Err 22))
 
   code_has : (p : Pdu) → fault_of e p ≡ 0 → code_of p ≤ most e
   code_has p f =
@@ -54,7 +54,7 @@ module _ (e : Edition) where
       (λ u. ltb-false (most e) (code_of p) u)
 
   -- and where the upper four bits of octet 2 are set, the code that is read is not 0
-  code_read : (s : List ℕ) (p : Pdu) → read_apdu e s ≡ Good p → UpperSet s → 0 < code_of p
+  code_read : (s : List ℕ) (p : Pdu) → read_apdu e s ≡ Ok p → UpperSet s → 0 < code_of p
   code_read s (Request p) g u =
       let b = read_writes_back e s (Request p) g in
       let o : oct s 1 ≡ p.accepts * 16 + p.size = ap (λ (l : List ℕ). oct l 1) (sym b.1) in
@@ -72,7 +72,7 @@ module _ (e : Edition) where
 
 -- ---- reading under the two
 module _ (s : List ℕ) where
-  refused_set : UpperSet s → read_apdu First s ≡ Refused 22
+  refused_set : UpperSet s → read_apdu First s ≡ Err 22
   refused_set u = above First s u.second u.request u.set
 
   upper_test : UpperSet s ⊎ ((UpperSet s → ⊥) × (read_apdu First s ≡ read_apdu Later s))
@@ -88,18 +88,18 @@ module _ (s : List ℕ) where
   same_clear : (UpperSet s → ⊥) → read_apdu First s ≡ read_apdu Later s
   same_clear n = ⊎_elim (λ u. absurd (n u)) (λ c. c.1) upper_test
 
-  accepted_alike : (p : Pdu) → read_apdu First s ≡ Good p → (read_apdu Later s ≡ Good p) × (code_of p ≡ 0)
+  accepted_alike : (p : Pdu) → read_apdu First s ≡ Ok p → (read_apdu Later s ≡ Ok p) × (code_of p ≡ 0)
   accepted_alike p g =
       let z = code_has First p (read_writes_back First s p g).0 in
       (sym (same_clear (λ u. let r = refused_set u in impossible (cc))) ∙ g, omega arith)
 
-  plain_alike : (p : Pdu) → read_apdu Later s ≡ Good p → code_of p ≡ 0 → read_apdu First s ≡ Good p
+  plain_alike : (p : Pdu) → read_apdu Later s ≡ Ok p → code_of p ≡ 0 → read_apdu First s ≡ Ok p
   plain_alike p g z = same_clear (λ u. omega (arith, code_read Later s p g u)) ∙ g
 
-  coded_refused : (p : Pdu) → read_apdu Later s ≡ Good p → 0 < code_of p → read_apdu First s ≡ Refused 22
+  coded_refused : (p : Pdu) → read_apdu Later s ≡ Ok p → 0 < code_of p → read_apdu First s ≡ Err 22
   coded_refused p g h = ⊎_elim refused_set (λ c. absurd (omega (arith, (accepted_alike p (c.1 ∙ g)).1))) upper_test
 
-  refused_too : (n : ℕ) → read_apdu Later s ≡ Refused n → (read_apdu First s ≡ Refused n) ⊎ (UpperSet s × (read_apdu First s ≡ Refused 22))
+  refused_too : (n : ℕ) → read_apdu Later s ≡ Err n → (read_apdu First s ≡ Err n) ⊎ (UpperSet s × (read_apdu First s ≡ Err 22))
   refused_too n r = ⊎_elim (λ u. inr (u, refused_set u)) (λ c. inl (c.1 ∙ r)) upper_test
 
 pub readings_compared : ReadingsCompared

@@ -1,4 +1,5 @@
 -- The writer's number is that of the first field in octet order that breaks a rule, and the number that reading such octets gives.
+use Rattle.std.specs.Prelude.{Err}
 use Prim.Native.Nat.{ℕ, ◌≤◌, ◌<◌}
 use native.Mathlib.Omega.{arith}
 use mathlib.Core.Path.{◌≡◌, refl, sym, ◌∙◌}
@@ -15,7 +16,6 @@ use Rattle.apdu.specs.declared.ComplexAckPdu.{ComplexAckPdu}
 use Rattle.apdu.specs.declared.SegmentAckPdu.{SegmentAckPdu}
 use Rattle.apdu.specs.declared.Pdu.{Pdu}
 use Rattle.apdu.specs.declared.Pdu.TheVariants.{Request, Unconfirmed, SimpleAck, ComplexAck, SegmentAck, Error, Reject, Abort}
-use Rattle.apdu.specs.declared.Answer.TheVariants.{Refused}
 use Rattle.apdu.specs.Editions.{most, code_of}
 use Rattle.apdu.specs.Fields.{segment_of}
 use Rattle.apdu.specs.Reading.{read_apdu, bit2, bit3}
@@ -205,10 +205,10 @@ module _ (p : ComplexAckPdu) where
       good_first 3 x f.kind (omega (arith, below1 x f.first, below0 x f.last)) (λ _. mor_with_seg x (not_lone p.segment f n))
 
 module _ (edition : Edition) (p : RequestPdu) (t : List ℕ) (fits : p.size ≤ 15) where
-  lone_zeros : Lone p.segment → read_apdu edition (header (Request p) ++ t) ≡ Refused 22
+  lone_zeros : Lone p.segment → read_apdu edition (header (Request p) ++ t) ≡ Err 22
   lone_zeros l = zero_bit_refused edition _ (ZeroBitSet.in_first (omega arith) (lone_first p.segment (request_parts p) (inl refl) l))
 
-  request_zeros : ZeroField edition (Request p) → read_apdu edition (header (Request p) ++ t) ≡ Refused 22
+  request_zeros : ZeroField edition (Request p) → read_apdu edition (header (Request p) ++ t) ≡ Err 22
   request_zeros (inl l) = lone_zeros l
   request_zeros (inr h) =
       ⊎_elim lone_zeros
@@ -222,12 +222,12 @@ module _ (edition : Edition) (p : RequestPdu) (t : List ℕ) (fits : p.size ≤ 
     first_good : BadFirst (request_first p) → ⊥
     first_good = request_good p (λ l. n (inl l))
 
-    size_off : 5 < p.size → read_apdu edition (header (Request p) ++ t) ≡ Refused 23
+    size_off : 5 < p.size → read_apdu edition (header (Request p) ++ t) ≡ Err 23
     size_off h =
         let c = code_within in
         size_window_refused edition _ (SizeOrWindow.of_size (omega arith) (request_parts p).kind first_good (omega arith) (omega arith))
 
-    request_off : OffField (Request p) → read_apdu edition (header (Request p) ++ t) ≡ Refused 23
+    request_off : OffField (Request p) → read_apdu edition (header (Request p) ++ t) ≡ Err 23
     request_off (inl h) = size_off h
     request_off (inr o) =
         by_test (ltb 5 p.size) (λ v. size_off (ltb-true 5 p.size v)) (λ v.
@@ -237,19 +237,19 @@ module _ (edition : Edition) (p : RequestPdu) (t : List ℕ) (fits : p.size ≤ 
         (WindowAt.of_request (request_parts p).kind (seg_bit (request_first p) ((request_parts p).third ∙ o.0)) (omega arith) (omega arith)) first_good o.1)))
 
 module _ (edition : Edition) where
-  ack_off : (p : ComplexAckPdu) (t : List ℕ) → (Lone p.segment → ⊥) → OffField (ComplexAck p) → read_apdu edition (header (ComplexAck p) ++ t) ≡ Refused 23
+  ack_off : (p : ComplexAckPdu) (t : List ℕ) → (Lone p.segment → ⊥) → OffField (ComplexAck p) → read_apdu edition (header (ComplexAck p) ++ t) ≡ Err 23
   ack_off p t n o =
       rw (tail_segmented p.segment p.choice o.0) (size_window_refused edition _ (SizeOrWindow.of_window {at = 3} (omega arith)
       (WindowAt.of_complex_ack (ack_parts p).kind (seg_bit (ack_first p) ((ack_parts p).third ∙ o.0))) (ack_good p n) o.1))
 
-  segment_ack_off : (p : SegmentAckPdu) (t : List ℕ) → Off p.window → read_apdu edition (header (SegmentAck p) ++ t) ≡ Refused 23
+  segment_ack_off : (p : SegmentAckPdu) (t : List ℕ) → Off p.window → read_apdu edition (header (SegmentAck p) ++ t) ≡ Err 23
   segment_ack_off p t o =
       let f = parts_of_lem 4 false false p.nak p.srv in
       let x = first_octet 4 false false p.nak p.srv in
       size_window_refused edition _ (SizeOrWindow.of_window {at = 3} (omega arith) (WindowAt.of_segment_ack f.kind)
       (good_first 4 x f.kind (omega (arith, below3 x f.third, below2 x f.second)) (λ w. mor_with_seg x (λ m. let z = f.second in impossible (cc)))) o)
 
-  off_read : (p : Pdu) (t : List ℕ) → Fits p → (ZeroField edition p → ⊥) → OffField p → read_apdu edition (header p ++ t) ≡ Refused 23
+  off_read : (p : Pdu) (t : List ℕ) → Fits p → (ZeroField edition p → ⊥) → OffField p → read_apdu edition (header p ++ t) ≡ Err 23
   off_read (Request p) t fits n o = request_off edition p t fits.1 n o
   off_read (Unconfirmed p) t fits n o = absurd o
   off_read (SimpleAck p) t fits n o = absurd o
@@ -259,7 +259,7 @@ module _ (edition : Edition) where
   off_read (Reject p) t fits n o = absurd o
   off_read (Abort p) t fits n o = absurd o
 
-  zeros_read : (p : Pdu) (t : List ℕ) → Fits p → ZeroField edition p → read_apdu edition (header p ++ t) ≡ Refused 22
+  zeros_read : (p : Pdu) (t : List ℕ) → Fits p → ZeroField edition p → read_apdu edition (header p ++ t) ≡ Err 22
   zeros_read (Request p) t fits z = request_zeros edition p t fits.1 z
   zeros_read (Unconfirmed p) t fits z = absurd (none_there edition (Unconfirmed p) refl refl z)
   zeros_read (SimpleAck p) t fits z = absurd (none_there edition (SimpleAck p) refl refl z)
@@ -270,10 +270,10 @@ module _ (edition : Edition) where
   zeros_read (Reject p) t fits z = absurd (none_there edition (Reject p) refl refl z)
   zeros_read (Abort p) t fits z = absurd (none_there edition (Abort p) refl refl z)
 
-  verdict_read : {p : Pdu} {n : ℕ} (t : List ℕ) → Fits p → Verdict edition p n → (n ≡ 0 → ⊥) → read_apdu edition (header p ++ t) ≡ Refused n
+  verdict_read : {p : Pdu} {n : ℕ} (t : List ℕ) → Fits p → Verdict edition p n → (n ≡ 0 → ⊥) → read_apdu edition (header p ++ t) ≡ Err n
   verdict_read {p} t fits (zeros z) f = zeros_read p t fits z
   verdict_read {p} t fits (off n o) f = off_read p t fits n o
   verdict_read {p} t fits (fine n o) f = absurd (f refl)
 
-  pub fault_read : (p : Pdu) (t : List ℕ) → Fits p → (fault_of edition p ≡ 0 → ⊥) → read_apdu edition (header p ++ t) ≡ Refused (fault_of edition p)
+  pub fault_read : (p : Pdu) (t : List ℕ) → Fits p → (fault_of edition p ≡ 0 → ⊥) → read_apdu edition (header p ++ t) ≡ Err (fault_of edition p)
   fault_read p t fits f = verdict_read t fits (verdict edition p) f

@@ -1,5 +1,6 @@
 -- "Octets are judged left to right and a missing octet when it is reached": what a refusal other than 20 says it says whatever follows,
 -- and 20 is given exactly where some octets more would be accepted.
+use Rattle.std.specs.Prelude.{Ok, Err}
 use Prim.Native.Nat.{ℕ, zero, suc, ◌+◌, ◌/◌, ◌≤◌, ◌<◌}
 use native.Mathlib.Omega.{arith}
 use mathlib.Core.Path.{◌≡◌, refl, ap, ◌∙◌}
@@ -17,9 +18,7 @@ use Rattle.octets.specs.Front.{front_octet}
 use Rattle.apdu.specs.declared.Edition.{Edition}
 use Rattle.apdu.specs.declared.Pdu.{Pdu}
 use Rattle.apdu.specs.declared.Pdu.TheVariants.{Unconfirmed}
-use Rattle.apdu.specs.declared.Answer.{Answer}
-use Rattle.apdu.specs.declared.Answer.TheVariants.{Good, Refused}
-use Rattle.apdu.specs.Reading.{read_apdu}
+use Rattle.apdu.specs.Reading.{read_apdu, Answer}
 use Rattle.apdu.specs.Layout.{header, first_octet, flag}
 use Rattle.apdu.specs.Valid.{Accepted}
 use Rattle.apdu.specs.Rows.{ZeroBitSet, WindowAt, SizeOrWindow, LeftOver, EndsEarly}
@@ -29,9 +28,9 @@ use Rattle.apdu.proofs.Typed.{as_none}
 use Rattle.apdu.proofs.Offences.{zero_bit_refused, size_window_refused, left_over_refused}
 
 -- an answer is one or the other
-pub either : (a : Answer) → ((p : Pdu) × (a ≡ Good p)) ⊎ ((n : ℕ) × (a ≡ Refused n))
-either (Good p) = inl (p, refl)
-either (Refused n) = inr (n, refl)
+pub either : (a : Answer) → ((p : Pdu) × (a ≡ Ok p)) ⊎ ((n : ℕ) × (a ≡ Err n))
+either (Ok p) = inl (p, refl)
+either (Err n) = inr (n, refl)
 
 -- the place of a window goes by the first two octets
 window_same : {edition : Edition} {s u : List ℕ} {at : ℕ} → oct s 0 ≡ oct u 0 → oct s 1 ≡ oct u 1 → WindowAt edition s at → WindowAt edition u at
@@ -77,7 +76,7 @@ module _ (edition : Edition) (s t : List ℕ) where
         octets = rw o.octets (append_assoc (header o.pdu) (o.next ∷ o.rest) t);
       }
 
-  pub left_to_right : (n : ℕ) → read_apdu edition s ≡ Refused n → (n ≡ 20 → ⊥) → read_apdu edition (s ++ t) ≡ Refused n
+  pub left_to_right : (n : ℕ) → read_apdu edition s ≡ Err n → (n ≡ 20 → ⊥) → read_apdu edition (s ++ t) ≡ Err n
   left_to_right n e f =
       reason_cases edition s n (refusal_reason edition s n e)
       (λ d _. absurd (f d))
@@ -96,11 +95,11 @@ unsnoc (b ∷ h) (a ∷ s) t x y e =
     let f : s ++ (y ∷ []) ≡ h ++ (x ∷ t) = cc in
     ⊎_elim (λ q. inl (cc)) (λ q. let z = q.1 in inr (q.0, cc)) (unsnoc h s t x y f)
 
-module _ (edition : Edition) (s : List ℕ) (some : 0 < length s) (e : read_apdu edition s ≡ Refused 20) where
+module _ (edition : Edition) (s : List ℕ) (some : 0 < length s) (e : read_apdu edition s ≡ Err 20) where
   abbrev more : List ℕ
   more = s ++ (1 ∷ [])
 
-  other : (n : ℕ) → read_apdu edition s ≡ Refused n → (n ≡ 20 → ⊥) → ⊥
+  other : (n : ℕ) → read_apdu edition s ≡ Err n → (n ≡ 20 → ⊥) → ⊥
   other n d f = let z : n ≡ 20 = cc in f z
 
   first : oct more 0 ≡ oct s 0
@@ -147,7 +146,7 @@ module _ (edition : Edition) (s : List ℕ) (some : 0 < length s) (e : read_apdu
   no_high : 8 ≤ oct more 0 / 16 → ⊥
   no_high h = other 21 (as_none edition s some (rw first at h)) (λ z. omega arith)
 
-  one_more : Accepted edition more ⊎ (read_apdu edition more ≡ Refused 20)
+  one_more : Accepted edition more ⊎ (read_apdu edition more ≡ Err 20)
   one_more =
       ⊎_elim (λ g. inl (good_accepted edition more g.0 g.1)) (λ b.
       reason_cases edition more b.0 (refusal_reason edition more b.0 b.1)
@@ -159,7 +158,7 @@ module _ (edition : Edition) (s : List ℕ) (some : 0 < length s) (e : read_apdu
       (either (read_apdu edition more))
 
 module _ (edition : Edition) where
-  finished : (k : ℕ) (s : List ℕ) → 0 < length s → 6 ≤ length s + k → read_apdu edition s ≡ Refused 20 → (t : List ℕ) × Octets t × Accepted edition (s ++ t)
+  finished : (k : ℕ) (s : List ℕ) → 0 < length s → 6 ≤ length s + k → read_apdu edition s ≡ Err 20 → (t : List ℕ) × Octets t × Accepted edition (s ++ t)
   finished zero s some h e = absurd (omega (arith, refusal_reason edition s 20 e))
   finished (suc k) s some h e =
       ⊎_elim (λ a. (1 ∷ [], octets_more 1 [] (lit< tt) octets_none, a)) (λ d.
@@ -173,10 +172,10 @@ module _ (edition : Edition) where
   unfolding first_octet flag given
   begun = (record { pdu = Unconfirmed (record { choice = 1 }); parameters = [] }, (tt, tt), refl)
 
-  not_accepted : (s : List ℕ) (n : ℕ) → read_apdu edition s ≡ Refused n → Accepted edition s → ⊥
+  not_accepted : (s : List ℕ) (n : ℕ) → read_apdu edition s ≡ Err n → Accepted edition s → ⊥
   not_accepted s n e a = let g = accepted_good edition s a in let z = g.1 in impossible (cc)
 
-  pub ends_early : (s : List ℕ) → read_apdu edition s ≡ Refused 20 → EndsEarly edition s
+  pub ends_early : (s : List ℕ) → read_apdu edition s ≡ Err 20 → EndsEarly edition s
   ends_early [] e =
       let two : Octets (16 ∷ 1 ∷ []) = octets_more 16 (1 ∷ []) (lit< tt) (octets_more 1 [] (lit< tt) octets_none) in
       record { unfinished = not_accepted [] 20 e; rest = 16 ∷ 1 ∷ []; octets = two; finished = begun }
@@ -184,11 +183,11 @@ module _ (edition : Edition) where
       let r = finished 6 (x ∷ s) (omega arith) (omega arith) e in
       record { unfinished = not_accepted (x ∷ s) 20 e; rest = r.0; octets = r.1; finished = r.2 }
 
-  pub early_refused : (s : List ℕ) → EndsEarly edition s → read_apdu edition s ≡ Refused 20
+  pub early_refused : (s : List ℕ) → EndsEarly edition s → read_apdu edition s ≡ Err 20
   early_refused s h =
       ⊎_elim
       (λ g. absurd (h.unfinished (good_accepted edition s g.0 g.1)))
       (λ b. by_test (eqb b.0 20)
-      (λ d. b.1 ∙ ap Refused (eqb-true b.0 20 d))
+      (λ d. b.1 ∙ ap Err (eqb-true b.0 20 d))
       (λ d. absurd (not_accepted (s ++ h.rest) b.0 (left_to_right edition s h.rest b.0 b.1 (eqb-false b.0 20 d)) h.finished)))
       (either (read_apdu edition s))

@@ -11,4 +11,4 @@ pub mod LeftToRight
 pub mod Rows
 pub mod FirstFault
 pub mod EditionsCompared
-pub mod Cases
+pub mod Twos

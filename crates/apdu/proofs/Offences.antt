@@ -1,4 +1,5 @@
 -- Octets that have a row's reason are refused with its number: rows 21 to 24.
+use Rattle.std.specs.Prelude.{Err}
 use Prim.Native.Nat.{ℕ, ◌+◌, ◌/◌, ◌%◌, ◌<◌}
 use native.Mathlib.Omega.{arith}
 use mathlib.Core.Path.{◌≡◌, refl, ◌∙◌}
@@ -13,8 +14,6 @@ use Rattle.octets.specs.Reading.{oct}
 use Rattle.apdu.specs.declared.Edition.{Edition}
 use Rattle.apdu.specs.declared.Pdu.{Pdu}
 use Rattle.apdu.specs.declared.Pdu.TheVariants.{Request, Unconfirmed, SimpleAck, ComplexAck, SegmentAck, Error, Reject, Abort}
-use Rattle.apdu.specs.declared.Answer.TheVariants.{Refused}
-use Rattle.apdu.specs.declared.kinds.Tail.TheVariants.{Broken}
 use Rattle.apdu.specs.Editions.{most}
 use Rattle.apdu.specs.Reading.{read_apdu, read_tail, read_request, read_unconfirmed, read_simple_ack, read_complex_ack, read_segment_ack, read_error, read_reject, read_abort, judge_window, mor_without_seg}
 use Rattle.apdu.specs.Layout.{first_octet, header}
@@ -43,17 +42,17 @@ pub off_window : {A : Type 0} (w : ℕ) (x y : A) → Off w → judge_window w x
 off_window w x y (inl z) = simp (eq-eqb w 0 z)
 off_window w x y (inr v) = simp (ne_eqb w 0 (λ z. omega arith), lt-ltb 127 w v)
 
-tail_off : (s : List ℕ) (at : ℕ) → Bit (oct s 0) 3 → at + 1 < length s → Off (oct s (at + 1)) → read_tail s at ≡ Broken 23
+tail_off : (s : List ℕ) (at : ℕ) → Bit (oct s 0) 3 → at + 1 < length s → Off (oct s (at + 1)) → read_tail s at ≡ Err 23
 unfolding read_tail
-tail_off s at b l o = rw (bit_seg (oct s 0) b, lt-leb (length s) (at + 1) l) (off_window (oct s (at + 1)) (Broken 23) _ o)
+tail_off s at b l o = rw (bit_seg (oct s 0) b, lt-leb (length s) (at + 1) l) (off_window (oct s (at + 1)) (Err 23) _ o)
 
 module _ (edition : Edition) where
   -- ---- 21
-  pub high_refused : (s : List ℕ) → HighType s → read_apdu edition s ≡ Refused 21
+  pub high_refused : (s : List ℕ) → HighType s → read_apdu edition s ≡ Err 21
   high_refused s h = as_none edition s h.some h.low
 
   -- ---- 22
-  zero_refused : {k i : ℕ} → ZeroBit k i → (s : List ℕ) → 0 < length s → oct s 0 / 16 ≡ k → Bit (oct s 0) i → read_apdu edition s ≡ Refused 22
+  zero_refused : {k i : ℕ} → ZeroBit k i → (s : List ℕ) → 0 < length s → oct s 0 / 16 ≡ k → Bit (oct s 0) i → read_apdu edition s ≡ Err 22
   unfolding read_request read_unconfirmed read_simple_ack read_complex_ack read_segment_ack read_error read_reject read_abort
   zero_refused ZeroBit.request s l e b = as_request edition s l e ∙ simp (lt-ltb 0 (oct s 0 % 2) (omega arith))
   zero_refused (ZeroBit.unconfirmed h) s l e b = as_unconfirmed edition s l e ∙ simp (lt-ltb 0 (oct s 0 % 16) (set_30 (oct s 0) _ h b))
@@ -64,13 +63,13 @@ module _ (edition : Edition) where
   zero_refused (ZeroBit.reject h) s l e b = as_reject edition s l e ∙ simp (lt-ltb 0 (oct s 0 % 16) (set_30 (oct s 0) _ h b))
   zero_refused (ZeroBit.abort m h) s l e b = as_abort edition s l e ∙ simp (lt-ltb 1 (oct s 0 % 16) (set_31 (oct s 0) _ m h b))
 
-  first_refused : (s : List ℕ) → 0 < length s → BadFirst (oct s 0) → read_apdu edition s ≡ Refused 22
+  first_refused : (s : List ℕ) → 0 < length s → BadFirst (oct s 0) → read_apdu edition s ≡ Err 22
   unfolding read_request read_complex_ack
   first_refused s l (BadFirst.zero_bit z b) = zero_refused z s l refl b
-  first_refused s l (BadFirst.lone_more (inl k) b f) = as_request edition s l k ∙ rw (bits_lone (oct s 0) b f) (pick_same (ltb 0 (oct s 0 % 2)) (Refused 22))
-  first_refused s l (BadFirst.lone_more (inr k) b f) = as_complex_ack edition s l k ∙ rw (bits_lone (oct s 0) b f) (pick_same (ltb 0 (oct s 0 % 4)) (Refused 22))
+  first_refused s l (BadFirst.lone_more (inl k) b f) = as_request edition s l k ∙ rw (bits_lone (oct s 0) b f) (pick_same (ltb 0 (oct s 0 % 2)) (Err 22))
+  first_refused s l (BadFirst.lone_more (inr k) b f) = as_complex_ack edition s l k ∙ rw (bits_lone (oct s 0) b f) (pick_same (ltb 0 (oct s 0 % 4)) (Err 22))
 
-  pub zero_bit_refused : (s : List ℕ) → ZeroBitSet edition s → read_apdu edition s ≡ Refused 22
+  pub zero_bit_refused : (s : List ℕ) → ZeroBitSet edition s → read_apdu edition s ≡ Err 22
   unfolding read_request
   zero_bit_refused s (ZeroBitSet.in_first l b) = first_refused s l b
   zero_bit_refused s (ZeroBitSet.in_second l k fine h) =
@@ -78,7 +77,7 @@ module _ (edition : Edition) where
       ∙ simp (clear_request (oct s 0) fine k, clear_more (oct s 0) fine (inl k), lt-leb (length s) 1 l, lt-ltb (most edition) (oct s 1 / 16) h)
 
   -- ---- 23
-  window_refused : (s : List ℕ) {at : ℕ} → at < length s → WindowAt edition s at → (BadFirst (oct s 0) → ⊥) → Off (oct s at) → read_apdu edition s ≡ Refused 23
+  window_refused : (s : List ℕ) {at : ℕ} → at < length s → WindowAt edition s at → (BadFirst (oct s 0) → ⊥) → Off (oct s at) → read_apdu edition s ≡ Err 23
   unfolding read_request read_complex_ack read_segment_ack
   window_refused s l (WindowAt.of_request k b c h) fine o =
       as_request edition s (omega arith) k ∙ simp (
@@ -94,9 +93,9 @@ module _ (edition : Edition) where
       as_complex_ack edition s (omega arith) k
       ∙ simp (clear_complex_ack (oct s 0) fine k, clear_more (oct s 0) fine (inr k), lt-leb (length s) 1 (omega arith), tail_off s 2 b l o)
   window_refused s l (WindowAt.of_segment_ack k) fine o =
-      as_segment_ack edition s (omega arith) k ∙ rw (clear_segment_ack (oct s 0) fine k, lt-leb (length s) 3 l) (off_window (oct s 3) (Refused 23) _ o)
+      as_segment_ack edition s (omega arith) k ∙ rw (clear_segment_ack (oct s 0) fine k, lt-leb (length s) 3 l) (off_window (oct s 3) (Err 23) _ o)
 
-  pub size_window_refused : (s : List ℕ) → SizeOrWindow edition s → read_apdu edition s ≡ Refused 23
+  pub size_window_refused : (s : List ℕ) → SizeOrWindow edition s → read_apdu edition s ≡ Err 23
   unfolding read_request
   size_window_refused s (SizeOrWindow.of_size l k fine c h) =
       as_request edition s (omega arith) k ∙ simp (
@@ -109,7 +108,7 @@ module _ (edition : Edition) where
   size_window_refused s (SizeOrWindow.of_window l w fine o) = window_refused s l w fine o
 
   -- ---- 24
-  over_refused : (p : Pdu) → Alone p → Rules edition p → (x : ℕ) (t : List ℕ) → read_apdu edition (header p ++ (x ∷ t)) ≡ Refused 24
+  over_refused : (p : Pdu) → Alone p → Rules edition p → (x : ℕ) (t : List ℕ) → read_apdu edition (header p ++ (x ∷ t)) ≡ Err 24
   unfolding read_simple_ack read_segment_ack read_reject read_abort
   over_refused (Request p) a r x t = absurd a
   over_refused (Unconfirmed p) a r x t = absurd a
@@ -154,5 +153,5 @@ module _ (edition : Edition) where
         lt-ltb 3 (length s) (omega arith),
       )
 
-  pub left_over_refused : (s : List ℕ) → LeftOver edition s → read_apdu edition s ≡ Refused 24
+  pub left_over_refused : (s : List ℕ) → LeftOver edition s → read_apdu edition s ≡ Err 24
   left_over_refused s o = rw o.octets (over_refused o.pdu o.alone o.rules o.next o.rest)

@@ -1,4 +1,5 @@
 -- What the reading accepts has its header in front and keeps the rules; what it refuses has the reason of its row.
+use Rattle.std.specs.Prelude.{Ok, Err}
 use Prim.Native.Nat.{ℕ, zero, suc, ◌+◌, ◌/◌, ◌%◌, ◌≤◌, ◌<◌}
 use native.Mathlib.Omega.{arith}
 use mathlib.Core.Path.{◌≡◌, refl, sym, ◌∙◌}
@@ -15,12 +16,8 @@ use Rattle.apdu.specs.declared.Edition.{Edition}
 use Rattle.apdu.specs.declared.Segment.{Segment}
 use Rattle.apdu.specs.declared.Pdu.{Pdu}
 use Rattle.apdu.specs.declared.Pdu.TheVariants.{Request, Unconfirmed, SimpleAck, ComplexAck, SegmentAck, Error, Reject, Abort}
-use Rattle.apdu.specs.declared.Answer.{Answer}
-use Rattle.apdu.specs.declared.Answer.TheVariants.{Good, Refused}
-use Rattle.apdu.specs.declared.kinds.Tail.{Tail}
-use Rattle.apdu.specs.declared.kinds.Tail.TheVariants.{Part, Broken}
 use Rattle.apdu.specs.Editions.{most}
-use Rattle.apdu.specs.Reading.{read_apdu, read_tail, read_request, read_unconfirmed, read_simple_ack, read_complex_ack, read_segment_ack, read_error, read_reject, read_abort, with_tail, judge_window, bit3, bit2, mor_without_seg}
+use Rattle.apdu.specs.Reading.{read_apdu, read_tail, read_request, read_unconfirmed, read_simple_ack, read_complex_ack, read_segment_ack, read_error, read_reject, read_abort, with_tail, judge_window, bit3, bit2, mor_without_seg, Answer, Tail}
 use Rattle.apdu.specs.Fields.{params_at}
 use Rattle.apdu.specs.Layout.{tail, header}
 use Rattle.apdu.specs.Valid.{Window, SegmentRules, Rules, Follows}
@@ -40,14 +37,14 @@ Reason e s n =
 
 -- what an answer says of the octets
 pub data Judged (e : Edition) (s : List ℕ) : Answer → Type 0 where
-  good : {p : Pdu} → Rules e p → Has s 0 (header p) → Follows p (drop (params_at p) s) → Judged e s (Good p)
-  bad : (n : ℕ) → Reason e s n → Judged e s (Refused n)
+  good : {p : Pdu} → Rules e p → Has s 0 (header p) → Follows p (drop (params_at p) s) → Judged e s (Ok p)
+  bad : (n : ℕ) → Reason e s n → Judged e s (Err n)
 
 -- what a tail says of the octets from a place on
 data JudgedTail (s : List ℕ) (at : ℕ) : Tail → Type 0 where
-  part : {g : Segment} {choice : ℕ} → SegmentRules g → bit3 (oct s 0) ≡ g.seg → bit2 (oct s 0) ≡ g.mor → Has s at (tail g choice) → JudgedTail s at (Part g choice)
-  ended : length s ≤ at + 2 → JudgedTail s at (Broken 20)
-  broken : bit3 (oct s 0) ≡ true → at + 1 < length s → Off (oct s (at + 1)) → JudgedTail s at (Broken 23)
+  part : {g : Segment} {choice : ℕ} → SegmentRules g → bit3 (oct s 0) ≡ g.seg → bit2 (oct s 0) ≡ g.mor → Has s at (tail g choice) → JudgedTail s at (Ok (g, choice))
+  ended : length s ≤ at + 2 → JudgedTail s at (Err 20)
+  broken : bit3 (oct s 0) ≡ true → at + 1 < length s → Off (oct s (at + 1)) → JudgedTail s at (Err 23)
 
 -- n octets as they stand
 abbrev run : List ℕ → ℕ → ℕ → List ℕ
@@ -97,17 +94,17 @@ module _ (s : List ℕ) where
 module _ (edition : Edition) (s : List ℕ) where
   with_tail_lem : (at : ℕ) (f : Segment → ℕ → Pdu) {t : Tail} → at ≤ 3 → JudgedTail s at t
       → (bit3 (oct s 0) ≡ true → at + 1 < length s → Off (oct s (at + 1)) → SizeOrWindow edition s)
-      → ((g : Segment) (choice : ℕ) → SegmentRules g → bit3 (oct s 0) ≡ g.seg → bit2 (oct s 0) ≡ g.mor → Has s at (tail g choice) → Judged edition s (Good (f g choice)))
+      → ((g : Segment) (choice : ℕ) → SegmentRules g → bit3 (oct s 0) ≡ g.seg → bit2 (oct s 0) ≡ g.mor → Has s at (tail g choice) → Judged edition s (Ok (f g choice)))
       → Judged edition s (with_tail t f)
   with_tail_lem at f b (part {g} {choice} r e d h) w k = k g choice r e d h
   with_tail_lem at f b (ended h) w k = bad 20 (omega arith)
   with_tail_lem at f b (broken e l o) w k = bad 23 (w e l o)
 
   -- past the octets that are reached, and past octets left over
-  reached : (at : ℕ) {rest : Answer} → at ≤ 5 → (at < length s → Judged edition s rest) → Judged edition s (reach s at (Refused 20) rest)
+  reached : (at : ℕ) {rest : Answer} → at ≤ 5 → (at < length s → Judged edition s rest) → Judged edition s (reach s at (Err 20) rest)
   reached at b f = pick_cases (Judged edition s) (leb (length s) at) (λ l. bad 20 (omega (arith, leb-true (length s) at l))) (λ l. f (leb-false (length s) at l))
 
-  ended_there : (p : Pdu) → Alone p → Rules edition p → Has s 0 (header p) → Judged edition s (refuse (ltb (params_at p) (length s)) (Refused 24) (Good p))
+  ended_there : (p : Pdu) → Alone p → Rules edition p → Has s 0 (header p) → Judged edition s (refuse (ltb (params_at p) (length s)) (Err 24) (Ok p))
   ended_there p a r h =
       pick_cases (Judged edition s) (ltb (params_at p) (length s))
       (λ l. bad 24 (record { pdu = p; alone = a; rules = r; next = _; rest = _; octets = front_more s p h (ltb-true _ _ l) }))
@@ -115,11 +112,11 @@ module _ (edition : Edition) (s : List ℕ) where
 
   module _ (some : 0 < length s) where
     -- past the low bits, and past MOR without SEG
-    first_bad : (test : Bool) {rest : Answer} → (test ≡ true → BadFirst (oct s 0)) → (test ≡ false → Judged edition s rest) → Judged edition s (refuse test (Refused 22) rest)
+    first_bad : (test : Bool) {rest : Answer} → (test ≡ true → BadFirst (oct s 0)) → (test ≡ false → Judged edition s rest) → Judged edition s (refuse test (Err 22) rest)
     first_bad test b f = pick_cases (Judged edition s) test (λ e. bad 22 (ZeroBitSet.in_first some (b e))) f
 
     low_bits : (mask limit : ℕ) {rest : Answer} → (limit < oct s 0 % mask → BadFirst (oct s 0)) → (oct s 0 % mask ≤ limit → Judged edition s rest)
-        → Judged edition s (refuse (ltb limit (oct s 0 % mask)) (Refused 22) rest)
+        → Judged edition s (refuse (ltb limit (oct s 0 % mask)) (Err 22) rest)
     low_bits mask limit b f =
         first_bad (ltb limit (oct s 0 % mask)) (λ e. b (ltb-true limit (oct s 0 % mask) e)) (λ z. f (ltb-false limit (oct s 0 % mask) z))
 

@@ -1,4 +1,5 @@
 -- "High four bits of the first octet are the type": the reading of octets is that of their kind.
+use Rattle.std.specs.Prelude.{Err}
 use Prim.Native.Nat.{ℕ, ◌/◌, ◌≤◌, ◌<◌}
 use native.Mathlib.Omega.{arith}
 use mathlib.Core.Path.{◌≡◌}
@@ -7,7 +8,6 @@ use lib.ListN.{length}
 use borrow.Author.Tests.{lt-leb, ne_eqb}
 use Rattle.octets.specs.Reading.{oct}
 use Rattle.apdu.specs.declared.Edition.{Edition}
-use Rattle.apdu.specs.declared.Answer.TheVariants.{Refused}
 use Rattle.apdu.specs.Reading.{read_apdu, read_request, read_unconfirmed, read_simple_ack, read_complex_ack, read_segment_ack, read_error, read_reject, read_abort}
 
 module _ (edition : Edition) (s : List ℕ) (some : 0 < length s) where
@@ -44,7 +44,7 @@ module _ (edition : Edition) (s : List ℕ) (some : 0 < length s) where
   as_abort e = simp (lt-leb (length s) 0 some, e)
 
   -- and of no kind from 8 on
-  pub as_none : 8 ≤ oct s 0 / 16 → read_apdu edition s ≡ Refused 21
+  pub as_none : 8 ≤ oct s 0 / 16 → read_apdu edition s ≡ Err 21
   unfolding read_apdu
   as_none h =
       let other : (k : ℕ) → k < 8 → oct s 0 / 16 ≡ k → ⊥ = λ k l e. omega arith in

@@ -1,10 +1,9 @@
 -- The two editions side by side: they differ in bits 6 to 4 of a confirmed request's second octet, and nowhere else.
-use Rattle.std.specs.Prelude.{ℕ, ◌/◌, ◌<◌, ◌≡◌, ◌↔◌, ◌⊎◌, List, length}
+use Rattle.std.specs.Prelude.{ℕ, ◌/◌, ◌<◌, ◌≡◌, ◌↔◌, ◌⊎◌, List, length, Ok, Err}
 use Rattle.octets.specs.Reading.{oct}
 use Rattle.apdu.specs.declared.Edition.{Edition}
 use Rattle.apdu.specs.declared.Edition.TheVariants.{First, Later}
 use Rattle.apdu.specs.declared.Pdu.{Pdu}
-use Rattle.apdu.specs.declared.Answer.TheVariants.{Good, Refused}
 use Rattle.apdu.specs.Editions.{most, code_of}
 use Rattle.apdu.specs.Reading.{read_apdu}
 use Rattle.apdu.specs.Fault.{fault_of}
@@ -19,15 +18,15 @@ pub record UpperSet (s : List ℕ) : Type 0 where
 -- "Under the 1995 edition refusal 22 for those bits remains"
 pub record ReadingsCompared : Type 0 where
   -- of any octets 1995 says 22 where those bits are set, and else what the later edition says
-  pub set : (s : List ℕ) → UpperSet s → read_apdu First s ≡ Refused 22
+  pub set : (s : List ℕ) → UpperSet s → read_apdu First s ≡ Err 22
   pub clear : (s : List ℕ) → (UpperSet s → ⊥) → read_apdu First s ≡ read_apdu Later s
   -- what 1995 accepts, the later edition accepts as the same PDU, and its code is 0
-  pub accepted : (s : List ℕ) (p : Pdu) → read_apdu First s ≡ Good p → (read_apdu Later s ≡ Good p) × (code_of p ≡ 0)
+  pub accepted : (s : List ℕ) (p : Pdu) → read_apdu First s ≡ Ok p → (read_apdu Later s ≡ Ok p) × (code_of p ≡ 0)
   -- what the later edition accepts, 1995 accepts alike where the code is 0, and refuses with 22 where it is not
-  pub plain : (s : List ℕ) (p : Pdu) → read_apdu Later s ≡ Good p → code_of p ≡ 0 → read_apdu First s ≡ Good p
-  pub coded : (s : List ℕ) (p : Pdu) → read_apdu Later s ≡ Good p → 0 < code_of p → read_apdu First s ≡ Refused 22
+  pub plain : (s : List ℕ) (p : Pdu) → read_apdu Later s ≡ Ok p → code_of p ≡ 0 → read_apdu First s ≡ Ok p
+  pub coded : (s : List ℕ) (p : Pdu) → read_apdu Later s ≡ Ok p → 0 < code_of p → read_apdu First s ≡ Err 22
   -- what the later edition refuses, 1995 refuses with the same number, or with 22 where those bits are set
-  pub refused : (s : List ℕ) (n : ℕ) → read_apdu Later s ≡ Refused n → (read_apdu First s ≡ Refused n) ⊎ (UpperSet s × (read_apdu First s ≡ Refused 22))
+  pub refused : (s : List ℕ) (n : ℕ) → read_apdu Later s ≡ Err n → (read_apdu First s ≡ Err n) ⊎ (UpperSet s × (read_apdu First s ≡ Err 22))
 
 -- the writer's numbers alike
 pub record FaultsCompared : Type 0 where

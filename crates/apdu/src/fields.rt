@@ -2,7 +2,10 @@
 ghost use Rattle.std.specs.Prelude.{◌≡◌};
 ghost use Rattle.apdu.specs.Fields.{kind_of, invoke_of, choice_of, segment_of, params_at};
 
-use super::{Pdu, Segment};
+use super::{
+    AbortPdu, ComplexAckPdu, ErrorPdu, Pdu, RejectPdu, RequestPdu, Segment, SegmentAckPdu,
+    SimpleAckPdu, UnconfirmedPdu,
+};
 
 // The PDU type, 0 to 7.
 pub fn kind_of(p: Pdu) -> u8
@@ -25,14 +28,14 @@ pub fn invoke_of(p: Pdu) -> u8
     ensures { result ≡ invoke_of p }
 {
     match p {
-        Pdu::Request(q) => q.invoke,
+        Pdu::Request(RequestPdu { invoke, .. })
+        | Pdu::SimpleAck(SimpleAckPdu { invoke, .. })
+        | Pdu::ComplexAck(ComplexAckPdu { invoke, .. })
+        | Pdu::SegmentAck(SegmentAckPdu { invoke, .. })
+        | Pdu::Error(ErrorPdu { invoke, .. })
+        | Pdu::Reject(RejectPdu { invoke, .. })
+        | Pdu::Abort(AbortPdu { invoke, .. }) => invoke,
         Pdu::Unconfirmed(_) => 0,
-        Pdu::SimpleAck(q) => q.invoke,
-        Pdu::ComplexAck(q) => q.invoke,
-        Pdu::SegmentAck(q) => q.invoke,
-        Pdu::Error(q) => q.invoke,
-        Pdu::Reject(q) => q.invoke,
-        Pdu::Abort(q) => q.invoke,
     }
 }
 
@@ -41,14 +44,12 @@ pub fn choice_of(p: Pdu) -> u8
     ensures { result ≡ choice_of p }
 {
     match p {
-        Pdu::Request(q) => q.choice,
-        Pdu::Unconfirmed(q) => q.choice,
-        Pdu::SimpleAck(q) => q.choice,
-        Pdu::ComplexAck(q) => q.choice,
-        Pdu::SegmentAck(_) => 0,
-        Pdu::Error(q) => q.choice,
-        Pdu::Reject(_) => 0,
-        Pdu::Abort(_) => 0,
+        Pdu::Request(RequestPdu { choice, .. })
+        | Pdu::Unconfirmed(UnconfirmedPdu { choice })
+        | Pdu::SimpleAck(SimpleAckPdu { choice, .. })
+        | Pdu::ComplexAck(ComplexAckPdu { choice, .. })
+        | Pdu::Error(ErrorPdu { choice, .. }) => choice,
+        Pdu::SegmentAck(_) | Pdu::Reject(_) | Pdu::Abort(_) => 0,
     }
 }
 
@@ -56,48 +57,28 @@ pub fn choice_of(p: Pdu) -> u8
 pub fn segment_of(p: Pdu) -> Segment
     ensures { result ≡ segment_of p }
 {
-    let whole = Segment {
-        seg: false,
-        mor: false,
-        number: 0,
-        window: 0,
-    };
     match p {
-        Pdu::Request(q) => q.segment,
-        Pdu::ComplexAck(q) => q.segment,
-        Pdu::Unconfirmed(_) => whole,
-        Pdu::SimpleAck(_) => whole,
-        Pdu::SegmentAck(_) => whole,
-        Pdu::Error(_) => whole,
-        Pdu::Reject(_) => whole,
-        Pdu::Abort(_) => whole,
+        Pdu::Request(RequestPdu { segment, .. }) | Pdu::ComplexAck(ComplexAckPdu { segment, .. }) =>
+            segment,
+        _ => Segment {
+            seg: false,
+            mor: false,
+            number: 0,
+            window: 0,
+        },
     }
 }
 
 // The place where the parameters begin: the header's length.
+#[tactic(auto, using(octets::specs::Rules::flags), unfolding(crate::specs::Fields::tail_end))]
 pub fn params_at(p: Pdu) -> usize
     ensures { result ≡ params_at p }
 {
     match p {
-        Pdu::Request(q) => {
-            let g = q.segment;
-            if g.seg {
-                return 6;
-            }
-            4
-        }
+        Pdu::Request(q) => if q.segment.seg { 6 } else { 4 },
+        Pdu::ComplexAck(q) => if q.segment.seg { 5 } else { 3 },
         Pdu::Unconfirmed(_) => 2,
-        Pdu::SimpleAck(_) => 3,
-        Pdu::ComplexAck(q) => {
-            let g = q.segment;
-            if g.seg {
-                return 5;
-            }
-            3
-        }
         Pdu::SegmentAck(_) => 4,
-        Pdu::Error(_) => 3,
-        Pdu::Reject(_) => 3,
-        Pdu::Abort(_) => 3,
+        Pdu::SimpleAck(_) | Pdu::Error(_) | Pdu::Reject(_) | Pdu::Abort(_) => 3,
     }
 }

@@ -1,231 +1,197 @@
-// A reader for each kind of PDU: it is handed octets whose first has its type, and judges them left to right.
-ghost use Rattle.std.specs.Prelude.{◌≡◌, length, ◌≤◌, ◌<◌};
-ghost use Rattle.apdu.specs.Reading.{read_tail, read_request, read_unconfirmed, read_simple_ack, read_complex_ack, read_segment_ack, read_error, read_reject, read_abort};
+// A reader for each kind of PDU: it is handed a first octet of its type and the octets behind it, and judges them left to right.
+ghost use Rattle.std.specs.Prelude.{◌≡◌, suc, ◌∷◌, ◌≤◌};
+ghost use Rattle.octets.specs.Refusal.{numbered};
+ghost use Rattle.apdu.specs.Reading.{read_tail, read_request, read_unconfirmed, read_simple_ack, read_complex_ack, read_segment_ack, read_error, read_reject, read_abort, two_octets};
 
 use super::{
-    AbortPdu, Answer, ComplexAckPdu, Edition, ErrorPdu, Pdu, RejectPdu, RequestPdu, Segment,
-    SegmentAckPdu, SimpleAckPdu, UnconfirmedPdu,
+    AbortPdu, ComplexAckPdu, Edition, ErrorPdu, Pdu, RejectPdu, RequestPdu, Segment, SegmentAckPdu,
+    SimpleAckPdu, UnconfirmedPdu,
 };
+use octets::Refusal;
 
-// What follows the invoke ID of a confirmed request or a complex ack: its segment and service choice, or the number of the refusal.
-#[derive(Drop)]
-pub enum Tail {
-    Part(Segment, u8),
-    Broken(u8),
-}
-
-// If SEG, number and window; choice: from a place on.
-pub fn read_tail(s: &[u8], at: usize) -> Tail
-    requires { (0 < length s.now) × (at ≤ 3) }
-    ensures { result ≡ read_tail s.now at }
+// What follows the invoke ID of a confirmed request or a complex ack: if SEG, number and window; choice.
+#[tactic(auto, using(octets::specs::Rules::tests), unfolding(crate::specs::Reading::read_tail))]
+fn read_tail(first: u8, rest: &[u8], at: usize) -> Result<(Segment, u8), Refusal>
+    requires { at ≤ 2 }
+    ensures { numbered result ≡ read_tail (first ∷ rest.now) (suc at) }
 {
-    let mor = s[0] % 8 / 4 == 1;
-    if s[0] % 16 / 8 == 1 {
-        if s.len() <= at + 1 {
-            return Tail::Broken(20);
+    let mor = first % 8 / 4 == 1;
+    if first % 16 / 8 == 1 {
+        if rest.len() <= at + 1 {
+            return Err(Refusal::ApduEndsEarly);
         }
-        if s[at + 1] == 0 {
-            return Tail::Broken(23);
+        let (number, window) = (rest[at], rest[at + 1]);
+        if window == 0 || 127 < window {
+            return Err(Refusal::SizeOrWindow);
         }
-        if 127 < s[at + 1] {
-            return Tail::Broken(23);
+        if rest.len() <= at + 2 {
+            return Err(Refusal::ApduEndsEarly);
         }
-        if s.len() <= at + 2 {
-            return Tail::Broken(20);
-        }
-        return Tail::Part(
-            Segment {
-                seg: true,
-                mor,
-                number: s[at],
-                window: s[at + 1],
-            },
-            s[at + 2],
-        );
-    }
-    if s.len() <= at {
-        return Tail::Broken(20);
-    }
-    Tail::Part(
-        Segment {
-            seg: false,
+        let segment = Segment {
+            seg: true,
             mor,
-            number: 0,
-            window: 0,
-        },
-        s[at],
-    )
+            number,
+            window,
+        };
+        return Ok((segment, rest[at + 2]));
+    }
+    if rest.len() <= at {
+        return Err(Refusal::ApduEndsEarly);
+    }
+    let segment = Segment {
+        seg: false,
+        mor,
+        number: 0,
+        window: 0,
+    };
+    Ok((segment, rest[at]))
 }
 
-pub fn read_request(edition: Edition, s: &[u8]) -> Answer
-    requires { 0 < length s.now }
-    ensures { result ≡ read_request edition s.now }
+// The two octets behind the first, of a kind whose low bits are at most this and which ends with them.
+#[tactic(auto, using(octets::specs::Rules::tests), unfolding(crate::specs::Reading::two_octets))]
+fn two_octets(low: u8, first: u8, rest: &[u8]) -> Result<(u8, u8), Refusal>
+    ensures { numbered result ≡ two_octets low (first ∷ rest.now) }
 {
-    if 0 < s[0] % 2 {
-        return Answer::Refused(22);
+    if low < first % 16 {
+        return Err(Refusal::ApduReserved);
     }
-    if s[0] % 16 / 4 == 1 {
-        return Answer::Refused(22);
+    let &[a, b, ..] = rest else {
+        return Err(Refusal::ApduEndsEarly);
+    };
+    if 2 < rest.len() {
+        return Err(Refusal::ApduLeftOver);
     }
-    if s.len() <= 1 {
-        return Answer::Refused(20);
+    Ok((a, b))
+}
+
+#[tactic(auto, using(octets::specs::Rules::tests), unfolding(crate::specs::Reading::read_request))]
+pub fn read_request(edition: Edition, first: u8, rest: &[u8]) -> Result<Pdu, Refusal>
+    ensures { numbered result ≡ read_request edition (first ∷ rest.now) }
+{
+    if 0 < first % 2 || first % 16 / 4 == 1 {
+        return Err(Refusal::ApduReserved);
     }
-    if super::most(edition) < s[1] / 16 {
-        return Answer::Refused(22);
+    let &[second, ..] = rest else {
+        return Err(Refusal::ApduEndsEarly);
+    };
+    if super::most(edition) < second / 16 {
+        return Err(Refusal::ApduReserved);
     }
-    if 5 < s[1] % 16 {
-        return Answer::Refused(23);
+    if 5 < second % 16 {
+        return Err(Refusal::SizeOrWindow);
     }
-    if s.len() <= 2 {
-        return Answer::Refused(20);
-    }
-    match read_tail(s, 3) {
-        Tail::Part(segment, choice) => Answer::Good(Pdu::Request(RequestPdu {
+    let &[_, invoke, ..] = rest else {
+        return Err(Refusal::ApduEndsEarly);
+    };
+    // Stays: (b) a match, here and in `read_complex_ack`: by `?` or `map` the receiver pays 25 instructions more for each of these headers.
+    match read_tail(first, rest, 2) {
+        Ok((segment, choice)) => Ok(Pdu::Request(RequestPdu {
             segment,
-            sa: s[0] % 4 / 2 == 1,
-            size: s[1] % 16,
-            invoke: s[2],
+            sa: first % 4 / 2 == 1,
+            size: second % 16,
+            invoke,
             choice,
-            accepts: s[1] / 16,
+            accepts: second / 16,
         })),
-        Tail::Broken(n) => Answer::Refused(n),
+        Err(r) => Err(r),
     }
 }
 
-pub fn read_unconfirmed(s: &[u8]) -> Answer
-    requires { 0 < length s.now }
-    ensures { result ≡ read_unconfirmed s.now }
+#[tactic(auto, using(octets::specs::Rules::tests), unfolding(crate::specs::Reading::read_unconfirmed))]
+pub fn read_unconfirmed(first: u8, rest: &[u8]) -> Result<Pdu, Refusal>
+    ensures { numbered result ≡ read_unconfirmed (first ∷ rest.now) }
 {
-    if 0 < s[0] % 16 {
-        return Answer::Refused(22);
+    if 0 < first % 16 {
+        return Err(Refusal::ApduReserved);
     }
-    if s.len() <= 1 {
-        return Answer::Refused(20);
-    }
-    Answer::Good(Pdu::Unconfirmed(UnconfirmedPdu { choice: s[1] }))
+    let &[choice, ..] = rest else {
+        return Err(Refusal::ApduEndsEarly);
+    };
+    Ok(Pdu::Unconfirmed(UnconfirmedPdu { choice }))
 }
 
-pub fn read_simple_ack(s: &[u8]) -> Answer
-    requires { 0 < length s.now }
-    ensures { result ≡ read_simple_ack s.now }
+#[tactic(auto, using(crate::proofs::Twos::simple_ack_two))]
+pub fn read_simple_ack(first: u8, rest: &[u8]) -> Result<Pdu, Refusal>
+    ensures { numbered result ≡ read_simple_ack (first ∷ rest.now) }
 {
-    if 0 < s[0] % 16 {
-        return Answer::Refused(22);
-    }
-    if s.len() <= 2 {
-        return Answer::Refused(20);
-    }
-    if 3 < s.len() {
-        return Answer::Refused(24);
-    }
-    Answer::Good(Pdu::SimpleAck(SimpleAckPdu {
-        invoke: s[1],
-        choice: s[2],
-    }))
+    let (invoke, choice) = two_octets(0, first, rest)?;
+    Ok(Pdu::SimpleAck(SimpleAckPdu { invoke, choice }))
 }
 
-pub fn read_complex_ack(s: &[u8]) -> Answer
-    requires { 0 < length s.now }
-    ensures { result ≡ read_complex_ack s.now }
+#[tactic(auto, using(octets::specs::Rules::tests), unfolding(crate::specs::Reading::read_complex_ack))]
+pub fn read_complex_ack(first: u8, rest: &[u8]) -> Result<Pdu, Refusal>
+    ensures { numbered result ≡ read_complex_ack (first ∷ rest.now) }
 {
-    if 0 < s[0] % 4 {
-        return Answer::Refused(22);
+    if 0 < first % 4 || first % 16 / 4 == 1 {
+        return Err(Refusal::ApduReserved);
     }
-    if s[0] % 16 / 4 == 1 {
-        return Answer::Refused(22);
-    }
-    if s.len() <= 1 {
-        return Answer::Refused(20);
-    }
-    match read_tail(s, 2) {
-        Tail::Part(segment, choice) => Answer::Good(Pdu::ComplexAck(ComplexAckPdu {
+    let &[invoke, ..] = rest else {
+        return Err(Refusal::ApduEndsEarly);
+    };
+    match read_tail(first, rest, 1) {
+        Ok((segment, choice)) => Ok(Pdu::ComplexAck(ComplexAckPdu {
             segment,
-            invoke: s[1],
+            invoke,
             choice,
         })),
-        Tail::Broken(n) => Answer::Refused(n),
+        Err(r) => Err(r),
     }
 }
 
-pub fn read_segment_ack(s: &[u8]) -> Answer
-    requires { 0 < length s.now }
-    ensures { result ≡ read_segment_ack s.now }
+#[tactic(auto, using(octets::specs::Rules::tests), unfolding(crate::specs::Reading::read_segment_ack))]
+pub fn read_segment_ack(first: u8, rest: &[u8]) -> Result<Pdu, Refusal>
+    ensures { numbered result ≡ read_segment_ack (first ∷ rest.now) }
 {
-    if 3 < s[0] % 16 {
-        return Answer::Refused(22);
+    if 3 < first % 16 {
+        return Err(Refusal::ApduReserved);
     }
-    if s.len() <= 3 {
-        return Answer::Refused(20);
+    let &[invoke, number, window, ..] = rest else {
+        return Err(Refusal::ApduEndsEarly);
+    };
+    if window == 0 || 127 < window {
+        return Err(Refusal::SizeOrWindow);
     }
-    if s[3] == 0 {
-        return Answer::Refused(23);
+    if 3 < rest.len() {
+        return Err(Refusal::ApduLeftOver);
     }
-    if 127 < s[3] {
-        return Answer::Refused(23);
-    }
-    if 4 < s.len() {
-        return Answer::Refused(24);
-    }
-    Answer::Good(Pdu::SegmentAck(SegmentAckPdu {
-        nak: s[0] % 4 / 2 == 1,
-        srv: s[0] % 2 == 1,
-        invoke: s[1],
-        number: s[2],
-        window: s[3],
+    Ok(Pdu::SegmentAck(SegmentAckPdu {
+        nak: first % 4 / 2 == 1,
+        srv: first % 2 == 1,
+        invoke,
+        number,
+        window,
     }))
 }
 
-pub fn read_error(s: &[u8]) -> Answer
-    requires { 0 < length s.now }
-    ensures { result ≡ read_error s.now }
+#[tactic(auto, using(octets::specs::Rules::tests), unfolding(crate::specs::Reading::read_error))]
+pub fn read_error(first: u8, rest: &[u8]) -> Result<Pdu, Refusal>
+    ensures { numbered result ≡ read_error (first ∷ rest.now) }
 {
-    if 0 < s[0] % 16 {
-        return Answer::Refused(22);
+    if 0 < first % 16 {
+        return Err(Refusal::ApduReserved);
     }
-    if s.len() <= 2 {
-        return Answer::Refused(20);
-    }
-    Answer::Good(Pdu::Error(ErrorPdu {
-        invoke: s[1],
-        choice: s[2],
-    }))
+    let &[invoke, choice, ..] = rest else {
+        return Err(Refusal::ApduEndsEarly);
+    };
+    Ok(Pdu::Error(ErrorPdu { invoke, choice }))
 }
 
-pub fn read_reject(s: &[u8]) -> Answer
-    requires { 0 < length s.now }
-    ensures { result ≡ read_reject s.now }
+#[tactic(auto, using(crate::proofs::Twos::reject_two))]
+pub fn read_reject(first: u8, rest: &[u8]) -> Result<Pdu, Refusal>
+    ensures { numbered result ≡ read_reject (first ∷ rest.now) }
 {
-    if 0 < s[0] % 16 {
-        return Answer::Refused(22);
-    }
-    if s.len() <= 2 {
-        return Answer::Refused(20);
-    }
-    if 3 < s.len() {
-        return Answer::Refused(24);
-    }
-    Answer::Good(Pdu::Reject(RejectPdu {
-        invoke: s[1],
-        reason: s[2],
-    }))
+    let (invoke, reason) = two_octets(0, first, rest)?;
+    Ok(Pdu::Reject(RejectPdu { invoke, reason }))
 }
 
-pub fn read_abort(s: &[u8]) -> Answer
-    requires { 0 < length s.now }
-    ensures { result ≡ read_abort s.now }
+#[tactic(auto, using(crate::proofs::Twos::abort_two))]
+pub fn read_abort(first: u8, rest: &[u8]) -> Result<Pdu, Refusal>
+    ensures { numbered result ≡ read_abort (first ∷ rest.now) }
 {
-    if 1 < s[0] % 16 {
-        return Answer::Refused(22);
-    }
-    if s.len() <= 2 {
-        return Answer::Refused(20);
-    }
-    if 3 < s.len() {
-        return Answer::Refused(24);
-    }
-    Answer::Good(Pdu::Abort(AbortPdu {
-        srv: s[0] % 2 == 1,
-        invoke: s[1],
-        reason: s[2],
+    let (invoke, reason) = two_octets(1, first, rest)?;
+    Ok(Pdu::Abort(AbortPdu {
+        srv: first % 2 == 1,
+        invoke,
+        reason,
     }))
 }

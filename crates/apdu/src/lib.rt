@@ -3,7 +3,10 @@
 
 ghost use Rattle.std.specs.Prelude.{◌≡◌};
 ghost use Rattle.apdu.specs.Editions.{most};
+ghost use Rattle.octets.specs.Refusal.{numbered};
 ghost use Rattle.apdu.specs.Reading.{read_apdu};
+
+use octets::Refusal;
 
 mod kinds; // kinds.rt: a reader for each kind of PDU
 pub mod fields; // fields.rt: what every kind of PDU can be asked
@@ -27,6 +30,7 @@ pub fn most(edition: Edition) -> u8
 }
 
 // What a confirmed request and a complex ack say of segments. Without SEG, number and window are absent: 0 as read.
+// Stays: (a) a flag beside its values, since specs/Fault `mor_fault` refuses MOR without SEG (22), for which an Option has no place.
 #[derive(Clone, Copy)]
 pub struct Segment {
     pub seg: bool,
@@ -73,6 +77,7 @@ pub struct SegmentAckPdu {
     pub window: u8,
 }
 
+// Stays: (d) the same fields as `SimpleAckPdu`, but another kind of the document, with parameters behind it: `Pdu::Error(SimpleAckPdu)` misnames it.
 #[derive(Clone, Copy)]
 pub struct ErrorPdu {
     pub invoke: u8,
@@ -105,29 +110,23 @@ pub enum Pdu {
     Abort(AbortPdu),
 }
 
-// The answer to a read APDU: the PDU, or the number of the refusal.
-#[derive(Clone, Copy)]
-pub enum Answer {
-    Good(Pdu),
-    Refused(u8),
-}
-
 // The high four bits of the first octet are the type.
-pub fn read(edition: Edition, s: &[u8]) -> Answer
-    ensures { result ≡ read_apdu edition s.now }
+#[tactic(auto, using(octets::specs::Rules::tests), unfolding(crate::specs::Reading::read_apdu))]
+pub fn read(edition: Edition, s: &[u8]) -> Result<Pdu, Refusal>
+    ensures { numbered result ≡ read_apdu edition s.now }
 {
-    if s.len() <= 0 {
-        return Answer::Refused(20);
-    }
-    match s[0] / 16 {
-        0 => kinds::read_request(edition, s),
-        1 => kinds::read_unconfirmed(s),
-        2 => kinds::read_simple_ack(s),
-        3 => kinds::read_complex_ack(s),
-        4 => kinds::read_segment_ack(s),
-        5 => kinds::read_error(s),
-        6 => kinds::read_reject(s),
-        7 => kinds::read_abort(s),
-        _ => Answer::Refused(21),
+    let &[first, ref rest @ ..] = s else {
+        return Err(Refusal::ApduEndsEarly);
+    };
+    match first / 16 {
+        0 => kinds::read_request(edition, first, rest),
+        1 => kinds::read_unconfirmed(first, rest),
+        2 => kinds::read_simple_ack(first, rest),
+        3 => kinds::read_complex_ack(first, rest),
+        4 => kinds::read_segment_ack(first, rest),
+        5 => kinds::read_error(first, rest),
+        6 => kinds::read_reject(first, rest),
+        7 => kinds::read_abort(first, rest),
+        _ => Err(Refusal::ApduType),
     }
 }

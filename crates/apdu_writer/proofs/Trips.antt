@@ -5,13 +5,11 @@ use mathlib.Core.Path.{◌≡◌, refl, sym, ◌∙◌}
 use mathlib.Core.List.{List, ◌++◌}
 use lib.ListN.{length, take, drop}
 use lib.Seq.{take_at}
-use Rattle.octets.specs.Laid.{laid_over, laid_one, laid_wrote}
+use Rattle.std.specs.Prelude.{Ok}
+use Rattle.octets.specs.Laid.{Written, laid_over, laid_one, laid_wrote}
 use Rattle.octets.specs.Splice.{splice_front}
-use Rattle.octets.specs.declared.Written.{Written}
-use Rattle.octets.specs.declared.Written.TheVariants.{Wrote}
 use Rattle.apdu.specs.declared.Edition.{Edition}
 use Rattle.apdu.specs.declared.Pdu.{Pdu}
-use Rattle.apdu.specs.declared.Answer.TheVariants.{Good}
 use Rattle.apdu.specs.Reading.{read_apdu}
 use Rattle.apdu.specs.Fields.{params_at}
 use Rattle.apdu.specs.Layout.{header}
@@ -23,14 +21,14 @@ use Rattle.apdu_writer.specs.Calls.{Writes}
 
 module _ (edition : Edition) where
   -- What was written, with parameters after it where the kind takes them, reads back as the same fields.
-  pub write_read : (p : Pdu) (n : ℕ) (area later t : List ℕ) → Writes edition p area (Wrote n) later → Follows p t → read_apdu edition (take n later ++ t) ≡ Good (shown p)
+  pub write_read : (p : Pdu) (n : ℕ) (area later t : List ℕ) → Writes edition p area (Ok n) later → Follows p t → read_apdu edition (take n later ++ t) ≡ Ok (shown p)
   write_read p n area later t l f =
       let w = laid_wrote (fault_of edition p) n (header p) area later l in
       rw (w.2, take_at (header p) (drop (length (header p)) area) n (sym w.1)) (written_reads_back edition p t w.0 f)
 
   -- What was read is not refused, and writes back to the same octets.
-  pub read_write : (s area later : List ℕ) (p : Pdu) (r : Written) → read_apdu edition s ≡ Good p → params_at p ≤ length area → Writes edition p area r later
-      → (r ≡ Wrote (params_at p)) × (later ≡ take (params_at p) s ++ drop (params_at p) area)
+  pub read_write : (s area later : List ℕ) (p : Pdu) (r : Written) → read_apdu edition s ≡ Ok p → params_at p ≤ length area → Writes edition p area r later
+      → (r ≡ Ok (params_at p)) × (later ≡ take (params_at p) s ++ drop (params_at p) area)
   read_write s area later p r e h l =
       let b = read_writes_back edition s p e in
       let k = header_length_lem p in

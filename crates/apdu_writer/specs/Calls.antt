@@ -1,7 +1,6 @@
 -- What the writer of headers promises.
 use Rattle.std.specs.Prelude.{ℕ, List}
-use Rattle.octets.specs.Laid.{Laid}
-use Rattle.octets.specs.declared.Written.{Written}
+use Rattle.octets.specs.Laid.{Laid, Written}
 use Rattle.apdu.specs.declared.Edition.{Edition}
 use Rattle.apdu.specs.declared.Pdu.{Pdu}
 use Rattle.apdu.specs.Layout.{header}

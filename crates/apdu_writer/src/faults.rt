@@ -1,88 +1,77 @@
-// The number of the first field in octet order that breaks a rule; 0 where none does.
+// The first field in octet order that breaks a rule refuses a header.
 ghost use Rattle.std.specs.Prelude.{◌≡◌};
+ghost use Rattle.octets.specs.Refusal as refusal;
 ghost use Rattle.apdu.specs.Fault.{mor_fault, window_fault, segment_fault, or_else, fault_of};
 ghost use Rattle.apdu.specs.declared.Pdu.TheVariants.{Request};
 
 use apdu::{ComplexAckPdu, Edition, Pdu, RequestPdu, Segment};
+use octets::Refusal;
 
 // MOR needs SEG.
-fn mor_fault(g: Segment) -> u8
-    ensures { result ≡ mor_fault g }
+#[tactic(auto, using(octets::specs::Rules::flags), unfolding(apdu::specs::Fault::mor_fault))]
+fn judge_mor(g: Segment) -> Result<(), Refusal>
+    ensures { refusal.fault_of result ≡ mor_fault g }
 {
-    let seg = g.seg;
-    let mor = g.mor;
-    if seg {
-        return 0;
+    if g.mor && !g.seg {
+        return Err(Refusal::ApduReserved);
     }
-    if mor {
-        return 22;
-    }
-    0
+    Ok(())
 }
 
 // Windows are 1 to 127.
-fn window_fault(w: u8) -> u8
-    ensures { result ≡ window_fault w }
+#[tactic(auto, using(octets::specs::Rules::tests), unfolding(apdu::specs::Fault::window_fault))]
+fn judge_window(w: u8) -> Result<(), Refusal>
+    ensures { refusal.fault_of result ≡ window_fault w }
 {
-    if w == 0 {
-        return 23;
+    if w == 0 || 127 < w {
+        return Err(Refusal::SizeOrWindow);
     }
-    if 127 < w {
-        return 23;
-    }
-    0
+    Ok(())
 }
 
 // The window of a segment; without SEG it is absent.
-fn segment_fault(g: Segment) -> u8
-    ensures { result ≡ segment_fault g }
+#[tactic(auto, using(octets::specs::Rules::flags), unfolding(apdu::specs::Fault::segment_fault))]
+fn judge_segment(g: Segment) -> Result<(), Refusal>
+    ensures { refusal.fault_of result ≡ segment_fault g }
 {
-    let seg = g.seg;
-    if seg {
-        return window_fault(g.window);
+    if g.seg {
+        judge_window(g.window)
+    } else {
+        Ok(())
     }
-    0
 }
 
-fn request_fault(edition: Edition, p: RequestPdu) -> u8
-    ensures { result ≡ fault_of edition (Request p) }
+#[tactic(auto, using(octets::specs::Rules::tests, crate::proofs::Judged::judged), unfolding(apdu::specs::Fault::code_fault, apdu::specs::Fault::size_fault))]
+fn judge_request(edition: Edition, p: RequestPdu) -> Result<(), Refusal>
+    ensures { refusal.fault_of result ≡ fault_of edition (Request p) }
 {
-    let g = p.segment;
-    let mor = mor_fault(g);
-    if mor != 0 {
-        return mor;
-    }
+    judge_mor(p.segment)?;
     if apdu::most(edition) < p.accepts {
-        return 22;
+        return Err(Refusal::ApduReserved);
     }
     if 5 < p.size {
-        return 23;
+        return Err(Refusal::SizeOrWindow);
     }
-    segment_fault(g)
+    judge_segment(p.segment)
 }
 
-fn complex_ack_fault(p: ComplexAckPdu) -> u8
-    ensures { result ≡ or_else (mor_fault p.segment) (segment_fault p.segment) }
+#[tactic(auto, using(crate::proofs::Judged::judged))]
+fn judge_complex_ack(p: ComplexAckPdu) -> Result<(), Refusal>
+    ensures { refusal.fault_of result ≡ or_else (mor_fault p.segment) (segment_fault p.segment) }
 {
-    let g = p.segment;
-    let mor = mor_fault(g);
-    if mor != 0 {
-        return mor;
-    }
-    segment_fault(g)
+    judge_mor(p.segment)?;
+    judge_segment(p.segment)
 }
 
-pub fn fault_of(edition: Edition, p: Pdu) -> u8
-    ensures { result ≡ fault_of edition p }
+// Whether a header may be written, whatever the area.
+pub fn judge(edition: Edition, p: Pdu) -> Result<(), Refusal>
+    ensures { refusal.fault_of result ≡ fault_of edition p }
 {
     match p {
-        Pdu::Request(q) => request_fault(edition, q),
-        Pdu::Unconfirmed(_) => 0,
-        Pdu::SimpleAck(_) => 0,
-        Pdu::ComplexAck(q) => complex_ack_fault(q),
-        Pdu::SegmentAck(q) => window_fault(q.window),
-        Pdu::Error(_) => 0,
-        Pdu::Reject(_) => 0,
-        Pdu::Abort(_) => 0,
+        Pdu::Request(q) => judge_request(edition, q),
+        Pdu::ComplexAck(q) => judge_complex_ack(q),
+        Pdu::SegmentAck(q) => judge_window(q.window),
+        Pdu::Unconfirmed(_) | Pdu::SimpleAck(_) | Pdu::Error(_) | Pdu::Reject(_) | Pdu::Abort(_) =>
+            Ok(()),
     }
 }

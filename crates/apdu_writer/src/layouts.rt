@@ -1,58 +1,42 @@
 // The octets of each kind of header, laid over the front of an area that holds them.
-ghost use Rattle.std.specs.Prelude.{◌≡◌, [], ◌∷◌, length, ◌+◌, ◌≤◌};
+ghost use Rattle.std.specs.Prelude.{◌≡◌, length, ◌+◌, ◌≤◌, get_or, false};
 ghost use Rattle.octets.specs.Splice.{splice};
-ghost use Rattle.apdu.specs.Layout.{flag, first_octet, tail, header};
+ghost use Rattle.apdu.specs.Layout.{first_octet, tail, header};
 ghost use Rattle.apdu.specs.Rows.{Fits};
-ghost use Rattle.apdu.specs.declared.Pdu.TheVariants.{Request, ComplexAck, SegmentAck};
+ghost use Rattle.apdu.specs.declared.Pdu.TheVariants.{Request, ComplexAck};
 
-use apdu::{ComplexAckPdu, Pdu, RequestPdu, Segment, SegmentAckPdu};
-
-fn flag_of(b: bool) -> u8
-    ensures value { result ≡ flag b }
-    ensures small { result ≤ 1 }
-{
-    if b {
-        return 1;
-    }
-    0
-}
+use apdu::{ComplexAckPdu, Pdu, RequestPdu, Segment};
 
 // The type in the high four bits, then bits 3 to 0.
-fn first_octet(kind: u8, b3: bool, b2: bool, b1: bool, b0: bool) -> u8
+#[tactic(auto, using(crate::proofs::Cases::bits), unfolding(apdu::specs::Layout::first_octet))]
+fn first_octet(kind: u8, bits: [bool; 4]) -> u8
     requires { kind ≤ 7 }
-    ensures { result ≡ first_octet kind b3 b2 b1 b0 }
+    ensures { result ≡ first_octet kind (get_or bits 0 false) (get_or bits 1 false) (get_or bits 2 false) (get_or bits 3 false) }
 {
-    kind * 16 + flag_of(b3) * 8 + flag_of(b2) * 4 + flag_of(b1) * 2 + flag_of(b0)
+    let [b3, b2, b1, b0] = bits;
+    kind * 16 + u8::from(b3) * 8 + u8::from(b2) * 4 + u8::from(b1) * 2 + u8::from(b0)
 }
 
-fn put_two(out: &mut [u8], at: usize, a: u8, b: u8)
-    requires { at + 2 ≤ length out.old }
-    ensures { out.new ≡ splice out.old at (a ∷ b ∷ []) }
+// The first octet of a kind without low bits.
+#[tactic(auto, unfolding(apdu::specs::Layout::first_octet, apdu::specs::Layout::flag, octets::specs::Choice::given))]
+fn plain(kind: u8) -> u8
+    requires { kind ≤ 7 }
+    ensures { result ≡ first_octet kind false false false false }
 {
-    out[at] = a;
-    out[at + 1] = b;
-}
-
-fn put_three(out: &mut [u8], at: usize, a: u8, b: u8, c: u8)
-    requires { at + 3 ≤ length out.old }
-    ensures { out.new ≡ splice out.old at (a ∷ b ∷ c ∷ []) }
-{
-    out[at] = a;
-    out[at + 1] = b;
-    out[at + 2] = c;
+    kind * 16
 }
 
 // If SEG, number and window; choice.
+#[tactic(auto, using(octets::specs::Rules::flags), unfolding(apdu::specs::Layout::tail))]
 fn put_tail(out: &mut [u8], at: usize, g: Segment, choice: u8)
     requires { at + length (tail g choice) ≤ length out.old }
     ensures { out.new ≡ splice out.old at (tail g choice) }
 {
-    let seg = g.seg;
-    if seg {
-        put_three(out, at, g.number, g.window, choice);
-        return;
+    if g.seg {
+        octets::copy(&[g.number, g.window, choice], out, at);
+    } else {
+        octets::put(out, at, choice);
     }
-    octets::put(out, at, choice);
 }
 
 fn put_request(p: RequestPdu, out: &mut [u8])
@@ -60,13 +44,8 @@ fn put_request(p: RequestPdu, out: &mut [u8])
     ensures { out.new ≡ splice out.old 0 (header (Request p)) }
 {
     let g = p.segment;
-    put_three(
-        out,
-        0,
-        first_octet(0, g.seg, g.mor, p.sa, false),
-        p.accepts * 16 + p.size,
-        p.invoke,
-    );
+    let first = first_octet(0, [g.seg, g.mor, p.sa, false]);
+    octets::copy(&[first, p.accepts * 16 + p.size, p.invoke], out, 0);
     put_tail(out, 3, g, p.choice);
 }
 
@@ -75,16 +54,9 @@ fn put_complex_ack(p: ComplexAckPdu, out: &mut [u8])
     ensures { out.new ≡ splice out.old 0 (header (ComplexAck p)) }
 {
     let g = p.segment;
-    put_two(out, 0, first_octet(3, g.seg, g.mor, false, false), p.invoke);
+    let first = first_octet(3, [g.seg, g.mor, false, false]);
+    octets::copy(&[first, p.invoke], out, 0);
     put_tail(out, 2, g, p.choice);
-}
-
-fn put_segment_ack(p: SegmentAckPdu, out: &mut [u8])
-    requires { 4 ≤ length out.old }
-    ensures { out.new ≡ splice out.old 0 (header (SegmentAck p)) }
-{
-    put_two(out, 0, first_octet(4, false, false, p.nak, p.srv), p.invoke);
-    put_two(out, 2, p.number, p.window);
 }
 
 pub fn put_header(p: Pdu, out: &mut [u8])
@@ -93,41 +65,18 @@ pub fn put_header(p: Pdu, out: &mut [u8])
 {
     match p {
         Pdu::Request(q) => put_request(q, out),
-        Pdu::Unconfirmed(q) => put_two(
-            out,
-            0,
-            first_octet(1, false, false, false, false),
-            q.choice,
-        ),
-        Pdu::SimpleAck(q) => put_three(
-            out,
-            0,
-            first_octet(2, false, false, false, false),
-            q.invoke,
-            q.choice,
-        ),
+        Pdu::Unconfirmed(q) => octets::copy(&[plain(1), q.choice], out, 0),
+        Pdu::SimpleAck(q) => octets::copy(&[plain(2), q.invoke, q.choice], out, 0),
         Pdu::ComplexAck(q) => put_complex_ack(q, out),
-        Pdu::SegmentAck(q) => put_segment_ack(q, out),
-        Pdu::Error(q) => put_three(
-            out,
-            0,
-            first_octet(5, false, false, false, false),
-            q.invoke,
-            q.choice,
-        ),
-        Pdu::Reject(q) => put_three(
-            out,
-            0,
-            first_octet(6, false, false, false, false),
-            q.invoke,
-            q.reason,
-        ),
-        Pdu::Abort(q) => put_three(
-            out,
-            0,
-            first_octet(7, false, false, false, q.srv),
-            q.invoke,
-            q.reason,
-        ),
+        Pdu::SegmentAck(q) => {
+            let first = first_octet(4, [false, false, q.nak, q.srv]);
+            octets::copy(&[first, q.invoke, q.number, q.window], out, 0);
+        }
+        Pdu::Error(q) => octets::copy(&[plain(5), q.invoke, q.choice], out, 0),
+        Pdu::Reject(q) => octets::copy(&[plain(6), q.invoke, q.reason], out, 0),
+        Pdu::Abort(q) => {
+            let first = first_octet(7, [false, false, false, q.srv]);
+            octets::copy(&[first, q.invoke, q.reason], out, 0);
+        }
     }
 }

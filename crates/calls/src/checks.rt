@@ -1,41 +1,61 @@
 // The check sums, whole and in parts; and the receiver by value.
-use crate::{areas, print, receiver, text};
+use crate::areas::Input;
+use crate::text::Line;
+use crate::{print, receiver};
 use hitchbarley::sum_calls;
 
-// The line's last octet.
-fn last(rt: &impl Print, x: u8) {
-    show::octet(rt, x);
-    print::end(rt);
+// The calls over octets alone.
+#[derive(Clone, Copy)]
+pub enum Call {
+    HeaderCheck,
+    HeaderRun,
+    DataCheck,
+    DataRun,
+    Receiver,
+}
+
+impl Call {
+    pub fn named(name: &[u8]) -> Option<Call> {
+        match name {
+            b"header-check" => Some(Call::HeaderCheck),
+            b"header-run" => Some(Call::HeaderRun),
+            b"data-check" => Some(Call::DataCheck),
+            b"data-run" => Some(Call::DataRun),
+            b"receiver" => Some(Call::Receiver),
+            _ => None,
+        }
+    }
+
+    fn make(self, rt: &impl Print, register: usize, octets: &[u8]) {
+        match self {
+            Call::HeaderCheck => octet(rt, sum_calls::hb_header_check(octets)),
+            Call::HeaderRun => octet(rt, sum_calls::hb_header_run((register % 256) as u8, octets)),
+            Call::DataCheck => pair(rt, sum_calls::hb_data_check(octets)),
+            Call::DataRun => pair(
+                rt,
+                sum_calls::hb_data_run((register % 65536) as u16, octets),
+            ),
+            Call::Receiver => receiver::all(rt, octets),
+        }
+    }
+
+    pub fn line(self, rt: &impl Print, line: Line) {
+        let octets = Input::of(line.group(1));
+        self.make(rt, line.number(1), octets.shown());
+    }
 }
 
 fn octet(rt: &impl Print, x: u8) {
     show::text(rt, b"  ");
-    last(rt, x);
+    show::octet(rt, x);
+    print::end(rt);
 }
 
 // Two octets, the high one first.
 fn pair(rt: &impl Print, x: u16) {
+    let [high, low] = x.to_be_bytes();
     show::text(rt, b"  ");
-    show::octet(rt, (x / 256) as u8);
-    last(rt, (x % 256) as u8);
-}
-
-// header-check, header-run, data-check, data-run, receiver
-fn made(rt: &impl Print, k: u8, register: usize, octets: &[u8]) {
-    match k {
-        10 => octet(rt, sum_calls::hb_header_check(octets)),
-        11 => octet(rt, sum_calls::hb_header_run((register % 256) as u8, octets)),
-        12 => pair(rt, sum_calls::hb_data_check(octets)),
-        13 => pair(
-            rt,
-            sum_calls::hb_data_run((register % 65536) as u16, octets),
-        ),
-        _ => receiver::all(rt, octets),
-    }
-}
-
-pub fn line(rt: &impl Print, k: u8, s: &[u8]) {
-    let mut octets = areas::input();
-    let n = text::group(s, &mut octets);
-    made(rt, k, text::first(s), show::part(&octets, 0, n));
+    show::octet(rt, high);
+    show::octet(rt, low);
+    print::end(rt);
 }

@@ -6,7 +6,7 @@ pub fn number(rt: &impl Print, n: usize) {
 // The answer.
 pub fn start(rt: &impl Print, r: u8) {
     show::text(rt, b"  ");
-    number(rt, r as usize);
+    number(rt, usize::from(r));
 }
 
 // A number behind its name.
@@ -19,27 +19,6 @@ pub fn end(rt: &impl Print) {
     show::text(rt, b"\n");
 }
 
-// Where the equal octets from a place on end.
-fn run_end(s: &[u8], from: usize, x: u8) -> usize {
-    let mut i = from;
-    while i < s.len() {
-        if s[i] != x {
-            return i;
-        }
-        i += 1;
-    }
-    i
-}
-
-// How many octets the word at a place stands for: a run of five or more, or one.
-fn run(s: &[u8], from: usize) -> usize {
-    let n = std::num::wrapping_sub_usize(run_end(s, from, crate::text::at(s, from)), from);
-    if n < 5 {
-        return 1;
-    }
-    n
-}
-
 // The word for so many times the octet.
 fn word(rt: &impl Print, x: u8, n: usize) {
     show::text(rt, b" ");
@@ -50,18 +29,22 @@ fn word(rt: &impl Print, x: u8, n: usize) {
     }
 }
 
+// Equal octets: one word where they are five or more, or a word each.
+fn run(rt: &impl Print, s: &[u8]) {
+    if let [x, _, _, _, _, ..] = s {
+        word(rt, *x, s.len());
+    } else {
+        for x in s {
+            word(rt, *x, 1);
+        }
+    }
+}
+
 // An area's name and its octets.
 pub fn area(rt: &impl Print, name: &[u8], s: &[u8]) {
     show::text(rt, name);
-    let mut i = 0;
-    let mut left = s.len();
-    while 0 < left {
-        if i < s.len() {
-            let n = run(s, i);
-            word(rt, s[i], n);
-            i = std::num::wrapping_add_usize(i, n);
-        }
-        left -= 1;
+    for equal in s.chunk_by(|x, y| x == y) {
+        run(rt, equal);
     }
-    show::text(rt, b"\n");
+    end(rt);
 }

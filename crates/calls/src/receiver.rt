@@ -9,48 +9,49 @@ fn good(rt: &impl Print, n: usize, store: &[u8; 501]) {
 }
 
 fn damage(rt: &impl Print, d: u8) {
-    print::named(rt, b" damage ", d as usize);
+    print::named(rt, b" damage ", usize::from(d));
     print::end(rt);
 }
 
-// What the last octet eaten ended.
-fn ended(rt: &impl Print, o: Outcome, n: usize, store: &[u8; 501]) {
+// What is told of what the last octet eaten ended: of a frame the data length that the header has, and the store.
+fn told(rt: &impl Print, o: Outcome, r: &Receiver) {
     match o {
         Outcome::Quiet => show::text(rt, b" quiet\n"),
-        Outcome::Frame => good(rt, n, store),
+        Outcome::Frame => good(rt, usize::from(frames::length_of(r.link.head)), &r.store),
         Outcome::Damage(d) => damage(rt, d),
     }
 }
 
-// What is told of a frame's end: the data length that the header has, and the store.
-fn told(rt: &impl Print, o: Outcome, r: Receiver) {
-    let link = r.link;
-    let head = link.head;
-    let store = r.store;
-    ended(rt, o, frames::length_of(head) as usize, &store);
-}
-
 // One call.
 fn turn(rt: &impl Print, r: Receiver, rest: &[u8]) -> Fed {
-    let f = r.feed(rest);
-    print::start(rt, f.refused);
+    let (number, f) = match r.feed(rest) {
+        Ok(f) => (0, f),
+        Err(e) => (e.number(), unfed(r)),
+    };
+    print::start(rt, number);
     print::named(rt, b" eaten ", f.eaten);
-    let outcome = f.outcome;
-    let later = f.receiver;
-    told(rt, outcome, later);
+    told(rt, f.outcome, &f.receiver);
     f
+}
+
+// Of a piece that is refused nothing is eaten.
+fn unfed(receiver: Receiver) -> Fed {
+    Fed {
+        eaten: 0,
+        outcome: Outcome::Quiet,
+        receiver,
+    }
 }
 
 pub fn all(rt: &impl Print, s: &[u8]) {
     let mut r = Receiver::fresh();
-    let mut at = 0;
-    let mut left = s.len();
-    while 0 < left {
-        if at < s.len() {
-            let f = turn(rt, r, show::part(s, at, s.len()));
-            r = f.receiver;
-            at = std::num::wrapping_add_usize(at, f.eaten);
+    let mut rest = s;
+    for _ in 0..s.len() {
+        if rest.is_empty() {
+            break;
         }
-        left -= 1;
+        let f = turn(rt, r, rest);
+        r = f.receiver;
+        rest = rest.get(f.eaten..).unwrap_or(b"");
     }
 }

@@ -1,9 +1,32 @@
 // Frames written and messages cut.
-use crate::{areas, print, text};
+use crate::areas::{Input, Output};
+use crate::print;
+use crate::text::Line;
 use hitchbarley::writer_calls;
 
-fn octet(n: usize) -> u8 {
-    (n % 256) as u8
+#[derive(Clone, Copy)]
+pub enum Call {
+    FrameWrite,
+    Cut,
+}
+
+impl Call {
+    pub fn named(name: &[u8]) -> Option<Call> {
+        match name {
+            b"frame-write" => Some(Call::FrameWrite),
+            b"cut" => Some(Call::Cut),
+            _ => None,
+        }
+    }
+
+    pub fn line(self, rt: &impl Print, line: Line) {
+        let one = Input::of(line.group(1));
+        let two = Input::of(line.group(2));
+        match self {
+            Call::FrameWrite => frame(rt, line, one.shown()),
+            Call::Cut => cut(rt, line, one.shown(), two.shown()),
+        }
+    }
 }
 
 // The answer, and the octets written.
@@ -13,58 +36,42 @@ fn start(rt: &impl Print, r: u8, wrote: usize) {
 }
 
 // The area that was lent.
-fn end(rt: &impl Print, out: &[u8]) {
+fn end(rt: &impl Print, out: &Output) {
     print::end(rt);
-    print::area(rt, b"  out", out);
+    print::area(rt, b"  out", out.shown());
 }
 
-// frame-write
-fn frame(rt: &impl Print, s: &[u8], payload: &[u8]) {
-    let mut out = areas::output();
+fn frame(rt: &impl Print, line: Line, payload: &[u8]) {
+    let mut out = Output::output(line.number(4));
     let mut wrote: usize = 99;
-    let m = text::fourth(s);
     let r = writer_calls::hb_frame_write(
-        octet(text::first(s)),
-        octet(text::second(s)),
-        octet(text::third(s)),
+        line.octet(1),
+        line.octet(2),
+        line.octet(3),
         payload,
-        text::front(&mut out, m),
+        out.lent(),
         &mut wrote,
     );
     start(rt, r, wrote);
-    end(rt, show::part(&out, 0, m));
+    end(rt, &out);
 }
 
-// cut
-fn cut(rt: &impl Print, s: &[u8], fields: &[u8], params: &[u8]) {
-    let mut out = areas::output();
+fn cut(rt: &impl Print, line: Line, fields: &[u8], params: &[u8]) {
+    let mut out = Output::output(line.number(5));
     let mut wrote: usize = 99;
     let mut segments: usize = 99;
-    let m = text::fifth(s);
     let r = writer_calls::hb_cut(
         fields,
-        octet(text::first(s)),
-        octet(text::second(s)),
-        octet(text::third(s)),
-        text::fourth(s),
+        line.octet(1),
+        line.octet(2),
+        line.octet(3),
+        line.number(4),
         params,
-        text::front(&mut out, m),
+        out.lent(),
         &mut wrote,
         &mut segments,
     );
     start(rt, r, wrote);
     print::named(rt, b" segments ", segments);
-    end(rt, show::part(&out, 0, m));
-}
-
-pub fn line(rt: &impl Print, k: u8, s: &[u8]) {
-    let mut one = areas::input();
-    let mut two = areas::input();
-    let n = text::group(s, &mut one);
-    let m = text::group2(s, &mut two);
-    if k == 26 {
-        frame(rt, s, show::part(&one, 0, n));
-        return;
-    }
-    cut(rt, s, show::part(&one, 0, n), show::part(&two, 0, m));
+    end(rt, &out);
 }

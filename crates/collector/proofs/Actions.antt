@@ -18,13 +18,11 @@ use Rattle.messages.specs.Rows as Rows
 use Rattle.messages.specs.Sound.{passes}
 use Rattle.rebuild.specs.View as View
 use Rattle.rebuild.specs.View.{keys, view}
-use Rattle.rebuild.specs.Calls.{Gives, taking}
+use Rattle.rebuild.specs.Calls.{Step, Taken, Gives, taking}
+use Rattle.rebuild.specs.Calls.Step.{Refused, Held, Complete}
 use Rattle.rebuild.specs.declared.Key.{Key}
 use Rattle.rebuild.specs.declared.Slots.{Slots}
 use Rattle.rebuild.specs.declared.Segment.{Segment}
-use Rattle.rebuild.specs.declared.Step.{Step}
-use Rattle.rebuild.specs.declared.Step.TheVariants.{Refused, Held, Complete}
-use Rattle.rebuild.specs.declared.Taken.{Taken}
 use Rattle.rebuild.proofs.Giving.{gives_by, taking_on}
 use Rattle.rebuild.proofs.Page.{take_sized, take_complete}
 use Rattle.recordings.specs.Frames.{act_on, rules}

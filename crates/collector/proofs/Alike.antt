@@ -20,9 +20,7 @@ use Rattle.reports.specs.Layout.{report_size}
 use Rattle.collector.specs.Calls.{passing, sound, box, written, said_so, slots_of, Answered, feed_refusal, feeding, Tells, Feeds, silence_refusal, stilling, Falls, Stills, Forgets}
 use Rattle.collector.specs.Offering.{BoxEnd, End, in_edition, told, WithArea, calls, Called}
 use Rattle.collector.specs.declared.Collector.{Collector}
-use Rattle.collector.specs.declared.Fed.{Fed}
-use Rattle.collector.specs.declared.Fell.{Fell}
-use Rattle.collector.specs.declared.Forgot.{Forgot}
+use Rattle.collector.specs.Answers.{Fed, Fell, Forgot}
 
 -- ---- one answer
 pub feeds_one : (c : Collector) (report area piece : List ℕ) {report₁ area₁ report₂ area₂ : List ℕ} {r₁ r₂ : Fed} → Feeds c report area piece r₁ report₁ area₁ → Feeds c report area piece r₂ report₂ area₂

@@ -4,15 +4,15 @@ use mathlib.Core.Path.{◌≡◌, refl, sym, ap, ◌∙◌}
 use mathlib.Core.Bool.{Bool, true, false}
 use mathlib.Core.List.{List, [], ◌∷◌}
 use native.Mathlib.Omega.{arith}
+use lib.Dec.{eqb}
 use lib.ListN.{length, take}
 use borrow.Author.Tests.{eq-eqb, ne_eqb}
-use Rattle.octets.specs.Choice.{pick, both, pick_case}
+use Rattle.octets.specs.Choice.{pick, both, pick_case, by_test}
 use Rattle.apdu.specs.declared.Edition.{Edition}
 use Rattle.frames.specs.declared.Outcome.TheVariants.{Quiet, Frame, Damage}
 use Rattle.frames.specs.declared.Link.{Link}
 use Rattle.frames.specs.declared.Receiver.{Receiver}
-use Rattle.frames.specs.declared.Fed.{Fed as Ended}
-use Rattle.frames.specs.declared.Fell.{Fell as Still}
+use Rattle.frames.specs.Answers.{Fed as Ended, Fell as Still}
 use Rattle.frames.specs.Step.{most, length_of, sound_of, step_of, reports_of, feed_from, feed_of, silence_of}
 use Rattle.frames.proofs.Laws.{step_store}
 use Rattle.frames.proofs.Calls.{feed_refused, silence_refused, frame_fits}
@@ -21,19 +21,16 @@ use Rattle.messages.specs.Rows.{forget_number}
 use Rattle.rebuild.specs.View.{keys, view}
 use Rattle.rebuild.specs.Calls as Rebuild
 use Rattle.rebuild.specs.declared.Slots.{Slots}
-use Rattle.rebuild.specs.declared.Forgot.{Forgot as Freed}
 use Rattle.recordings.specs.Frames.{rules}
 use Rattle.reports.specs.Layout.{report_size}
 use Rattle.collector.specs.Heard.{heard_of}
 use Rattle.collector.specs.Frame.{content_of, bacnet, damage_octets}
 use Rattle.collector.specs.Acting.{acting, Acted}
 use Rattle.collector.specs.Calls.{passing, slots_of, sound, Answered, feed_refusal, feeding, Tells, Feeds, silence_refusal, stilling, Falls, Stills, Forgets}
-use Rattle.collector.specs.Lent as Lent
 use Rattle.collector.specs.Lent.{over, Eats}
-use Rattle.collector.specs.declared.lent.Ate.{Ate}
 use Rattle.collector.specs.declared.Collector.{Collector}
-use Rattle.collector.specs.declared.Fed.{Fed}
-use Rattle.collector.specs.declared.Fell.{Fell}
+use Rattle.collector.specs.Answers as Said
+use Rattle.collector.specs.Answers.{Fed, Fell, Ate, Freed, Forgot}
 use Rattle.collector.proofs.Actions.{acts_frame}
 
 both_no : (a : Bool) → both a false ≡ false
@@ -73,6 +70,20 @@ module _ (c : Collector) (report area piece : List ℕ) where
   feeds_area k h =
       tells_by (rw (eq-eqb (length report) report_size k, ne_eqb (length area) 65536 h)) (rw (eq-eqb (length report) report_size k, ne_eqb (length area) 65536 h)) (tells_not 60 c report area)
 
+  -- what is refused leaves the receiver
+  pub feeds_kept : (n : ℕ) → 1 ≤ n → feed_refusal c report area ≡ n → c.receiver ≡ (feeding c report area piece).state
+  unfolding feed_refusal feeding feed_of
+  feeds_kept n l e =
+      by_test (eqb (length report) report_size)
+      (λ k. by_test (eqb (length area) 65536)
+      (λ z. by_test (passing (slots_of c))
+      (λ p. by_test (sound_of c.receiver)
+      (λ s. absurd (let q : 0 ≡ n = rw (k, z, s, p) at e in omega arith))
+      (λ s. rw (k, z, p, s)))
+      (λ p. rw (k, z, p)))
+      (λ z. rw (k, z)))
+      (λ k. rw k)
+
   module _ (k : length report ≡ report_size) (z : length area ≡ 65536) where
     pub feeds_slots : passing (slots_of c) ≡ false → Feeds c report area piece (unfed_by 59 c) report area
     unfolding feed_refusal feeding
@@ -92,7 +103,7 @@ module _ (c : Collector) (report area piece : List ℕ) where
         tells_by n d h
 
 -- over a lent store
-pub eats_not : {n : ℕ} {edition : Edition} {l : Link} {t : Slots} {store report area piece : List ℕ} {r : Ate} → r ≡ Lent.unfed_by n l t → Feeds (over edition l t store) report area piece (unfed_by n (over edition l t store)) report area
+pub eats_not : {n : ℕ} {edition : Edition} {l : Link} {t : Slots} {store report area piece : List ℕ} {r : Ate} → r ≡ Said.unfed_by n l t → Feeds (over edition l t store) report area piece (unfed_by n (over edition l t store)) report area
     → Eats edition l t store report area piece r store report area
 eats_not e h = rw e (record { feeds = h; kept = λ z. refl })
 

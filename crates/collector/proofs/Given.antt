@@ -1,4 +1,5 @@
 -- The key of every segment that a frame carries is one that a header gives: its addresses are those of the network header that was read.
+use Rattle.std.specs.Prelude.{Ok, Err}
 use Prim.Native.Nat.{ℕ}
 use native.Mathlib.Omega.{arith}
 use mathlib.Core.Path.{◌≡◌, subst}
@@ -11,10 +12,8 @@ use borrow.Author.Tests.{ltb-false}
 use Rattle.octets.specs.Choice.{pick_case, pick_cases, given_cases, true_both, impossible}
 use Rattle.octets.specs.Reading.{oct}
 use Rattle.npdu.specs.Reading.{read_npdu}
-use Rattle.apdu.specs.Reading.{read_apdu}
+use Rattle.apdu.specs.Reading.{Answer, read_apdu}
 use Rattle.apdu.specs.declared.Edition.{Edition}
-use Rattle.apdu.specs.declared.Answer.{Answer}
-use Rattle.apdu.specs.declared.Answer.TheVariants.{Good, Refused}
 use Rattle.trunk.specs.Reading.{Out}
 use Rattle.trunk.specs.Reading.Out.{good as whole, damage}
 use Rattle.messages.specs.Slots as Messages
@@ -44,8 +43,8 @@ module _ (Q : Key → Type 0) (read : (w : Heard) (v : Route) (m : Parts) → Gi
         subst (λ (x : Messages.Segment Key). Q x.key) q (read w v m k)
 
     apdu_fine : (v : Route) (a : List ℕ) (y : Answer) → GivenRoute v → Fine (apdu_content v a y)
-    apdu_fine v a (Good p) k = given_cases Known _ _ _ (λ _. segment_known v (parts_of p (oct a 0)) a k) (λ _. none_known)
-    apdu_fine v a (Refused n) k = none_known
+    apdu_fine v a (Ok p) k = given_cases Known _ _ _ (λ _. segment_known v (parts_of p (oct a 0)) a k) (λ _. none_known)
+    apdu_fine v a (Err n) k = none_known
 
     npdu_fine : (payload : List ℕ) → Fine (npdu_content w.edition payload (read_npdu payload))
     unfolding npdu_content

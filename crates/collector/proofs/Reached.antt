@@ -13,7 +13,7 @@ use Rattle.runs.specs.Offered.Made.{feed, still, free}
 use Rattle.runs.proofs.Carrying.{stays}
 use Rattle.apdu.specs.declared.Edition.{Edition}
 use Rattle.frames.specs.declared.Receiver.{Receiver}
-use Rattle.frames.specs.declared.Fed.{Fed}
+use Rattle.frames.specs.Answers.{Fed}
 use Rattle.frames.specs.Step.{sound_of, step_of, reports_of, feed_from, feed_of, silence_of, still_of}
 use Rattle.trunk.specs.Reading.{Out}
 use Rattle.trunk.specs.Demand.{Sound, Keeps, out_of}

@@ -11,10 +11,7 @@ use Rattle.octets.specs.Choice.{non, pick_case, pick_cases, given, not_so}
 use Rattle.octets.specs.Reading.{oct, be16}
 use Rattle.npdu.specs.Address.{absent, part_address, source_of, destination_of, gives, gives_source, gives_destination}
 use Rattle.npdu.specs.Layout.{version, zeros, cut}
-use Rattle.npdu.specs.Reading.{message_bit, dest_bit, source_bit, sixth_bit, fourth_bit, no_part, address_of, part_len, part_net, part_of, part_if, tail_at, joined, after_tail, after_source, after_dest, after_version, read_npdu}
-use Rattle.npdu.specs.declared.Reading.{Reading}
-use Rattle.npdu.specs.declared.part.Part.{Part}
-use Rattle.npdu.specs.declared.tail.Tail.{Tail}
+use Rattle.npdu.specs.Reading.{message_bit, dest_bit, source_bit, sixth_bit, fourth_bit, no_part, address_of, part_len, part_net, part_of, part_if, tail_at, joined, after_tail, after_source, after_dest, after_version, read_npdu, Part, Tail, Reading}
 use Rattle.npdu.proofs.AddressLaws.{part_gives}
 use Rattle.npdu.proofs.Parts.{take_cut, length_cut}
 use Rattle.npdu.proofs.Refusing.{Read, refused_not, past}

@@ -1,5 +1,5 @@
 -- What a good frame's content does to slots and area, with its report: the promise of the functions that judge a frame.
-use Rattle.std.specs.Prelude.{ℕ, ◌+◌, ◌*◌, ◌≤◌, ◌≡◌, Bool, true, false, List, eqb, length, drop}
+use Rattle.std.specs.Prelude.{ℕ, ◌+◌, ◌*◌, ◌≤◌, ◌≡◌, Bool, true, false, List, Option, Some, None, eqb, length, drop}
 use Rattle.octets.specs.Choice.{pick}
 use Rattle.octets.specs.Reading.{oct}
 use Rattle.apdu.specs.declared.Edition.{Edition}
@@ -8,12 +8,10 @@ use Rattle.messages.specs.Slots.{room}
 use Rattle.messages.specs.Rows.{rebuild}
 use Rattle.messages.specs.Sound.{passes}
 use Rattle.rebuild.specs.View.{keys, view}
-use Rattle.rebuild.specs.Calls.{Gives}
+use Rattle.rebuild.specs.Calls.{Step, Taken, Gives}
+use Rattle.rebuild.specs.Calls.Step.{Refused, Held, Complete}
 use Rattle.rebuild.specs.declared.Key.{Key}
 use Rattle.rebuild.specs.declared.Slots.{Slots}
-use Rattle.rebuild.specs.declared.Step.{Step}
-use Rattle.rebuild.specs.declared.Step.TheVariants.{Refused, Held, Complete}
-use Rattle.rebuild.specs.declared.Taken.{Taken}
 use Rattle.recordings.specs.Frames.{act_on}
 use Rattle.reports.specs.Layout.{report_size, report_octets}
 use Rattle.collector.specs.Heard.{heard_of, Route}
@@ -81,16 +79,16 @@ pub record Heeds (x : Content) (payload report : List ℕ) (r : Told) (report' :
   pub segmented : Segmented r.parts (drop r.at payload)
 
 -- it is reported, whatever slots and message area are, and changes neither; or it is a segment
-pub record HearsAs (w : Heard) (x : Content) (payload report : List ℕ) (r : Told) (report' : List ℕ) : Type 0 where
-  pub whole : r.parts.segment.seg ≡ false → (t : Slots) (area : List ℕ) → Acted (acting w x (view t) area) t report' area
-  pub part : r.parts.segment.seg ≡ true → Heeds x payload report r report'
+pub record HearsAs (w : Heard) (x : Content) (payload report : List ℕ) (r : Option Told) (report' : List ℕ) : Type 0 where
+  pub whole : r ≡ None → (t : Slots) (area : List ℕ) → Acted (acting w x (view t) area) t report' area
+  pub part : (s : Told) → r ≡ Some s → Heeds x payload report s report'
 
 -- a good frame, by its data
-abbrev pub Hears : Heard → List ℕ → List ℕ → Told → List ℕ → Type 0
+abbrev pub Hears : Heard → List ℕ → List ℕ → Option Told → List ℕ → Type 0
 Hears w payload report r report' = HearsAs w (content_of w payload) payload report r report'
 
 -- an APDU with the octets a, at a place of whatever data
-abbrev pub HearsBehind : Heard → Content → ℕ → List ℕ → List ℕ → Told → List ℕ → Type 0
+abbrev pub HearsBehind : Heard → Content → ℕ → List ℕ → List ℕ → Option Told → List ℕ → Type 0
 HearsBehind w x at a report r report' = (payload : List ℕ) → at ≤ length payload → drop at payload ≡ a → HearsAs w x payload report r report'
 
 -- a completed message lies in the area

@@ -16,9 +16,7 @@ use Rattle.recordings.specs.Frames.{rules}
 use Rattle.reports.specs.Layout.{report_size}
 use Rattle.collector.specs.Frame.{bacnet, damage_octets}
 use Rattle.collector.specs.declared.Collector.{Collector}
-use Rattle.collector.specs.declared.Fed.{Fed}
-use Rattle.collector.specs.declared.Fell.{Fell}
-use Rattle.collector.specs.declared.Forgot.{Forgot}
+use Rattle.collector.specs.Answers.{Fed, Fell, Forgot}
 
 -- four slots
 abbrev pub slot_count : ℕ

@@ -1,14 +1,11 @@
 -- What a good frame is, what is reported of it, and the segment that it carries.
-use Rattle.std.specs.Prelude.{ℕ, ◌-◌, ◌*◌, List, ltb, eqb, length, drop}
+use Rattle.std.specs.Prelude.{ℕ, Ok, Err, ◌-◌, ◌*◌, List, ltb, eqb, length, drop}
 use Rattle.std.proofs.Math.Option.{Option, none, some}
 use Rattle.octets.specs.Choice.{pick, given}
 use Rattle.octets.specs.Reading.{oct, refuse}
-use Rattle.npdu.specs.Reading.{read_npdu}
-use Rattle.npdu.specs.declared.Reading.{Reading}
-use Rattle.apdu.specs.Reading.{read_apdu}
+use Rattle.npdu.specs.Reading.{read_npdu, Reading}
+use Rattle.apdu.specs.Reading.{Answer, read_apdu}
 use Rattle.apdu.specs.declared.Edition.{Edition}
-use Rattle.apdu.specs.declared.Answer.{Answer}
-use Rattle.apdu.specs.declared.Answer.TheVariants.{Good, Refused}
 use Rattle.items.specs.Reading.{Out, items_of}
 use Rattle.items.specs.Reading.Out.{good, bad}
 use Rattle.trunk.specs.Reading as Trunk
@@ -16,10 +13,9 @@ use Rattle.trunk.specs.Reading.Out.{good as whole, damage}
 use Rattle.messages.specs.Slots as Messages
 use Rattle.messages.specs.Slots.{room, part}
 use Rattle.messages.specs.Rows as Rows
-use Rattle.rebuild.specs.Calls.{step_of}
+use Rattle.rebuild.specs.Calls.{Step, step_of}
+use Rattle.rebuild.specs.Calls.Step.{Refused, Held, Complete}
 use Rattle.rebuild.specs.declared.Key.{Key}
-use Rattle.rebuild.specs.declared.Step as Step
-use Rattle.rebuild.specs.declared.Step.TheVariants.{Held, Complete}
 use Rattle.recordings.specs.Frames.{Frames}
 use Rattle.reports.specs.Layout.{report_octets}
 use Rattle.reports.specs.Kinds.{other_frame, damaged, unsegmented, segment_taken, complete, refusal, network_message}
@@ -37,8 +33,8 @@ pub data Content : Type 0 where
   message : Route → Parts → List ℕ → Content  -- an APDU taken apart, and all its octets
 
 abbrev pub apdu_content : Route → List ℕ → Answer → Content
-apdu_content v a (Good p) = message v (parts_of p (oct a 0)) a
-apdu_content v a (Refused n) = refuses_behind v n
+apdu_content v a (Ok p) = message v (parts_of p (oct a 0)) a
+apdu_content v a (Err n) = refuses_behind v n
 
 -- what follows the network header, an APDU read by the edition
 unfoldable pub npdu_content : Edition → List ℕ → Reading → Content
@@ -88,8 +84,8 @@ plain_report w (refuses_behind v n) = refusal w.frame n
 plain_report w (message v m a) = by_tags (items_of (params_of m a)) (unsegmented w.frame m.apdu (length a))
 
 -- a segment, by its answer and the area after it: "A completed message with bad tags is kind 6 with its tag number"
-abbrev pub step_report : Heard → Parts → Step.Step → List ℕ → Report
-step_report w m (Step.TheVariants.Refused n) area = refusal w.frame n
+abbrev pub step_report : Heard → Parts → Step → List ℕ → Report
+step_report w m (Refused n) area = refusal w.frame n
 step_report w m (Held i total) area = segment_taken w.frame m.apdu i total
 step_report w m (Complete i total) area = by_tags (items_of (part (room * i) total area)) (complete w.frame m.apdu i total)
 

@@ -1,5 +1,5 @@
 -- The three calls over a lent frame store: they are the collector's own, its edition, link, slots and store being apart.
-use Rattle.std.specs.Prelude.{ℕ, ◌≡◌, true, false, List}
+use Rattle.std.specs.Prelude.{ℕ, ◌≡◌, true, List}
 use Rattle.apdu.specs.declared.Edition.{Edition}
 use Rattle.frames.specs.declared.Link.{Link}
 use Rattle.frames.specs.Step as Frames
@@ -9,12 +9,7 @@ use Rattle.rebuild.specs.declared.Slots.{Slots}
 use Rattle.collector.specs.Acting.{Kept}
 use Rattle.collector.specs.Calls.{Feeds, Stills, Forgets}
 use Rattle.collector.specs.declared.Collector.{Collector}
-use Rattle.collector.specs.declared.Fed.{Fed}
-use Rattle.collector.specs.declared.Fell.{Fell}
-use Rattle.collector.specs.declared.Forgot.{Forgot}
-use Rattle.collector.specs.declared.lent.Ate.{Ate}
-use Rattle.collector.specs.declared.lent.Hushed.{Hushed}
-use Rattle.collector.specs.declared.lent.Freed.{Freed}
+use Rattle.collector.specs.Answers.{Fed, Fell, Forgot, Ate, Hushed, Freed}
 
 -- edition, link, slots and store put together
 abbrev pub over : Edition → Link → Slots → List ℕ → Collector
@@ -28,10 +23,6 @@ pub record Eats (e : Edition) (l : Link) (t : Slots) (store report area piece : 
   pub feeds : Feeds (over e l t store) report area piece (fed_over e r store') report' area'
   pub kept : Kept r.moved t r.slots
 
--- a refused piece: nothing eaten, nothing changed
-abbrev pub unfed_by : ℕ → Link → Slots → Ate
-unfed_by n l t = record { refused = n; eaten = 0; reported = false; moved = false; link = l; slots = t }
-
 -- ---- a silence, whatever edition and store are: neither changes, nor do the slots
 abbrev pub fell_over : Edition → Hushed → Slots → List ℕ → Fell
 fell_over e r t s = record { refused = r.refused; reported = r.reported; state = over e r.link t s }
@@ -42,10 +33,6 @@ Hushes l t report r report' = (e : Edition) (s : List ℕ) → Stills (over e l 
 -- the same beside slots that 59 passes, whatever they are
 abbrev pub HushesBeside : Link → List ℕ → Hushed → List ℕ → Type 0
 HushesBeside l report r report' = (t : Slots) → passes keys 4 (view t) ≡ true → Hushes l t report r report'
-
--- a silence that reports nothing, or is refused
-abbrev pub quiet_by : ℕ → Link → Hushed
-quiet_by n l = record { refused = n; reported = false; link = l }
 
 -- ---- forgetting, whatever edition and store are: neither changes, nor does the link
 abbrev pub forgot_over : Edition → Freed → Link → List ℕ → Forgot

@@ -11,9 +11,7 @@ use Rattle.rebuild.specs.declared.Key.{Key}
 use Rattle.reports.specs.Layout.{report_size}
 use Rattle.collector.specs.Calls.{passing, slots_of, Feeds, Stills, Forgets}
 use Rattle.collector.specs.declared.Collector.{Collector}
-use Rattle.collector.specs.declared.Fed.{Fed}
-use Rattle.collector.specs.declared.Fell.{Fell}
-use Rattle.collector.specs.declared.Forgot.{Forgot}
+use Rattle.collector.specs.Answers.{Fed, Fell, Forgot}
 
 -- a state that 59 passes, with arrays of their sizes
 pub record Passes (c : Collector) : Type 0 where

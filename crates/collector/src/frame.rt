@@ -1,11 +1,13 @@
 // What a good frame does: header, APDU, tags, slots, area, report.
 ghost use Rattle.std.specs.Prelude.{◌≡◌, true, false, ◌≤◌, length};
 ghost use Rattle.octets.specs.Reading.{oct};
+ghost use Rattle.octets.specs.Refusal.{number_of, fault_of};
 ghost use Rattle.npdu.specs.Reading.{read_npdu};
 ghost use Rattle.apdu.specs.Reading.{read_apdu};
 ghost use Rattle.items.specs.Reading.{items_of};
 ghost use Rattle.items.specs.Listing.{refusal_in};
 ghost use Rattle.rebuild.specs.View.{view};
+ghost use Rattle.rebuild.specs.Calls.{said_of, taken_of};
 ghost use Rattle.reports.specs.Layout.{report_size, report_octets};
 ghost use Rattle.reports.specs.Kinds.{damaged, refusal};
 ghost use Rattle.collector.specs.Heard.{heard_of, route_of};
@@ -14,11 +16,12 @@ ghost use Rattle.collector.specs.Acting.{acting, carrying, Carries, Named, Seate
 
 use crate::heard;
 use crate::heard::{Heard, Parts, Route, Told};
-use apdu::{Answer, Edition};
-use items::Tally;
+use apdu::Edition;
+use items::Unlisted;
 use npdu::Npdu;
+use octets::Refusal;
 use rebuild::{Key, Segment, Slots, Step, Taken};
-use reports::{Frame, Report};
+use reports::Report;
 
 // Kind 2: damage.
 pub fn put_damage(out: &mut [u8], n: u8)
@@ -29,24 +32,22 @@ pub fn put_damage(out: &mut [u8], n: u8)
 }
 
 // Kind 6: refused.
-fn put_refusal(out: &mut [u8], w: Heard, n: u8)
+fn put_refusal(out: &mut [u8], w: Heard, n: Refusal)
     requires { length out.old ≡ report_size }
-    ensures { out.new ≡ report_octets (refusal w.frame n) }
+    ensures { out.new ≡ report_octets (refusal w.frame (number_of n)) }
 {
-    let frame = w.frame;
-    reports::put(Report::refusal(frame, n), out);
+    reports::put(Report::refusal(w.frame, n.number()), out);
 }
 
-// The number of a tag's refusal, 0 where every tag is good. It only checks: no octets are lent for the records, and 61 is as good as success.
+// The refusal of a tag. It only checks: no octets are lent for the records, and 61 is as good as success.
 #[tactic(auto, using(crate::proofs::Content::number_bad, crate::proofs::Content::number_good, crate::proofs::Content::number_small))]
-fn tag_number(params: &[u8]) -> u8
-    ensures { result ≡ refusal_in (items_of params.now) }
+fn judge_tags(params: &[u8]) -> Result<(), Refusal>
+    ensures { fault_of result ≡ refusal_in (items_of params.now) }
 {
-    let mut none = [0u8; 0];
-    match items::list(params, &mut none) {
-        Tally::Items(_) => 0,
-        Tally::Small(_) => 0,
-        Tally::Refused(x) => x,
+    match items::list(params, &mut []) {
+        Ok(_) => Ok(()),
+        Err(Unlisted::Small(_)) => Ok(()),
+        Err(Unlisted::Refused(x)) => Err(x),
     }
 }
 
@@ -56,37 +57,33 @@ fn put_by_tags(out: &mut [u8], params: &[u8], r: Report)
     requires { length out.old ≡ report_size }
     ensures { out.new ≡ report_octets (by_tags (items_of params.now) r) }
 {
-    let x = tag_number(params);
-    if x == 0 {
-        reports::put(r, out);
-        return;
+    match judge_tags(params) {
+        Ok(()) => reports::put(r, out),
+        Err(x) => reports::put(Report::refusal(r.frame, x.number()), out),
     }
-    let frame = r.frame;
-    reports::put(Report::refusal(frame, x), out);
 }
 
 // The report of a segment, from its answer and the area after it.
 #[tactic(auto, using(crate::proofs::Content::answer_complete, crate::proofs::Content::answer_refused, crate::proofs::Content::answer_taken, crate::proofs::Content::answer_within))]
-pub fn put_answer(w: Heard, m: Parts, step: Step, out: &mut [u8], area: &[u8])
-    requires { (length out.old ≡ report_size) × Named step area.now }
-    ensures { out.new ≡ report_octets (step_report w m step area.now) }
+pub fn put_answer(w: Heard, m: Parts, step: Result<Step, Refusal>, out: &mut [u8], area: &[u8])
+    requires { (length out.old ≡ report_size) × Named (said_of step) area.now }
+    ensures { out.new ≡ report_octets (step_report w m (said_of step) area.now) }
 {
-    let frame = w.frame;
-    let apdu = m.apdu;
     match step {
-        Step::Refused(n) => {
-            put_refusal(out, w, n);
+        Err(n) => put_refusal(out, w, n),
+        Ok(Step::Held(slot, held)) => {
+            reports::put(
+                Report::segment_taken(w.frame, m.apdu, slot, u32::from(held)),
+                out,
+            );
         }
-        Step::Held(slot, held) => {
-            reports::put(Report::segment_taken(frame, apdu, slot, held as u32), out);
-        }
-        Step::Complete(slot, total) => {
-            let from = 16384 * octets::wide(slot);
-            let to = from + (total as usize);
+        Ok(Step::Complete(slot, total)) => {
+            let from = 16384 * usize::from(slot);
+            let to = from + usize::from(total);
             put_by_tags(
                 out,
                 &area[from..to],
-                Report::complete(frame, apdu, slot, total as u32),
+                Report::complete(w.frame, m.apdu, slot, u32::from(total)),
             );
         }
     }
@@ -96,28 +93,22 @@ pub fn put_answer(w: Heard, m: Parts, step: Step, out: &mut [u8], area: &[u8])
 #[tactic(auto, using(crate::proofs::Content::segment_is, crate::proofs::Actions::segment_taken_lem))]
 pub fn take(w: Heard, v: Route, m: Parts, a: &[u8], slots: Slots, area: &mut [u8]) -> Taken
     requires { Seated slots area.old × Segmented m a.now }
-    ensures { Takes w v m a.now slots area.old result area.new }
+    ensures { Takes w v m a.now slots area.old (taken_of result) area.new }
 {
-    let frame = w.frame;
-    let apdu = m.apdu;
-    let part = m.segment;
-    let from = v.source;
-    let to = v.destination;
     let g = Segment {
         key: Key {
-            source: frame.source,
-            destination: frame.destination,
+            source: w.frame.source,
+            destination: w.frame.destination,
             kind: m.kind,
-            invoke: apdu.invoke,
-            from,
-            to,
+            invoke: m.apdu.invoke,
+            from: v.source,
+            to: v.destination,
         },
-        number: part.number,
-        mor: part.mor,
-        choice: apdu.choice,
+        number: m.segment.number,
+        mor: m.segment.mor,
+        choice: m.apdu.choice,
     };
-    let at = m.params;
-    rebuild::take(slots, g, &a[at..], area)
+    rebuild::take(slots, g, &a[m.params..], area)
 }
 
 // A segment: rebuilding, then its report.
@@ -135,8 +126,7 @@ fn act_segment(
     ensures { Acted (acting w (Content.message v m a.now) (view slots) area.old) result out.new area.new }
 {
     let t = take(w, v, m, a, slots, area);
-    let step = t.answer;
-    put_answer(w, m, step, out, area);
+    put_answer(w, m, t.answer, out, area);
     t.slots
 }
 
@@ -146,70 +136,61 @@ fn put_plain(w: Heard, m: Parts, a: &[u8], out: &mut [u8])
     requires { (length out.old ≡ report_size) × ((m.params ≤ length a.now) × (length a.now ≤ 501)) }
     ensures { SaidBehind w (λ v. Content.message v m a.now) out.new }
 {
-    let frame = w.frame;
-    let apdu = m.apdu;
-    let at = m.params;
     put_by_tags(
         out,
-        &a[at..],
-        Report::unsegmented(frame, apdu, a.len() as u32),
+        &a[m.params..],
+        Report::unsegmented(w.frame, m.apdu, a.len() as u32),
     );
 }
 
 // An APDU at a place, by its octets, behind its network header.
 #[tactic(auto, using(crate::proofs::Hearing::apdu_alone, crate::proofs::Hearing::apdu_part, crate::proofs::Hearing::apdu_turned, crate::proofs::Content::parts_within, crate::proofs::Content::some_octets_lem))]
-fn hear_apdu(w: Heard, h: Npdu, a: &[u8], at: usize, out: &mut [u8]) -> Told
+fn hear_apdu(w: Heard, h: Npdu, a: &[u8], at: usize, out: &mut [u8]) -> Option<Told>
     requires { (length out.old ≡ report_size) × (length a.now ≤ 501) }
     ensures { HearsBehind w (apdu_content (route_of h) a.now (read_apdu w.edition a.now)) at a.now out.old result out.new }
 {
-    let edition = w.edition;
-    match apdu::read(edition, a) {
-        Answer::Refused(n) => {
+    match apdu::read(w.edition, a) {
+        Err(n) => {
             put_refusal(out, w, n);
-            Told::REPORTED
+            None
         }
-        Answer::Good(p) => {
+        Ok(p) => {
             let m = heard::parts_of(p, a[0]);
-            let part = m.segment;
-            let seg = part.seg;
-            if seg {
-                let v = heard::route_of(h);
-                return Told {
+            if m.segment.seg {
+                return Some(Told {
                     at,
-                    route: v,
+                    route: Route::from(h),
                     parts: m,
-                };
+                });
             }
             put_plain(w, m, a, out);
-            Told::REPORTED
+            None
         }
     }
 }
 
 // The data of a frame of type 5 or 6: the network header, and what follows it.
 #[tactic(auto, using(crate::proofs::Content::next_inside, crate::proofs::Hearing::npdu_on, crate::proofs::Hearing::npdu_spoken, crate::proofs::Hearing::npdu_turned))]
-fn hear_npdu(w: Heard, payload: &[u8], out: &mut [u8]) -> Told
+fn hear_npdu(w: Heard, payload: &[u8], out: &mut [u8]) -> Option<Told>
     requires { (length out.old ≡ report_size) × (length payload.now ≤ 501) }
     ensures { HearsAs w (npdu_content w.edition payload.now (read_npdu payload.now)) payload.now out.old result out.new }
 {
-    let n = npdu::read(payload);
-    let refused = n.refused;
-    if 0 < refused {
-        put_refusal(out, w, refused);
-        return Told::REPORTED;
+    match npdu::read(payload) {
+        Err(n) => {
+            put_refusal(out, w, n);
+            None
+        }
+        Ok(h) => {
+            if h.npdu.message {
+                reports::put(
+                    Report::network_message(w.frame, (payload.len() - h.next) as u32),
+                    out,
+                );
+                return None;
+            }
+            hear_apdu(w, h.npdu, &payload[h.next..], h.next, out)
+        }
     }
-    let next = n.next;
-    let h = n.head;
-    let message = h.message;
-    if message {
-        let frame = w.frame;
-        reports::put(
-            Report::network_message(frame, (payload.len() - next) as u32),
-            out,
-        );
-        return Told::REPORTED;
-    }
-    hear_apdu(w, h, &payload[next..], next, out)
 }
 
 // Whether a good frame carries a network header. Slots move by such a frame alone.
@@ -217,20 +198,16 @@ fn hear_npdu(w: Heard, payload: &[u8], out: &mut [u8]) -> Told
 pub fn carries(head: [u8; 5]) -> bool
     ensures { result ≡ carrying (oct head 0) }
 {
-    if head[0] == 5 {
-        return true;
-    }
-    head[0] == 6
+    matches!(head[0], 5 | 6)
 }
 
 // A good frame of type 5 or 6, read by an edition: reported, unless it is a segment.
 #[tactic(auto, using(crate::proofs::Hearing::frame_heard))]
-pub fn hear(edition: Edition, head: [u8; 5], payload: &[u8], out: &mut [u8]) -> Told
+pub fn hear(edition: Edition, head: [u8; 5], payload: &[u8], out: &mut [u8]) -> Option<Told>
     requires { Carries true head payload.now × (length out.old ≡ report_size) }
     ensures { Hears (heard_of edition head) payload.now out.old result out.new }
 {
-    let w = heard::heard_of(edition, head);
-    hear_npdu(w, payload, out)
+    hear_npdu(heard::heard_of(edition, head), payload, out)
 }
 
 // A good frame of type 5 or 6: its head and its data, read by an edition.
@@ -246,17 +223,11 @@ pub fn act(
     requires { Carries true head payload.now × Lent out.old slots area.old }
     ensures { Acted (acting (heard_of edition head) (content_of (heard_of edition head) payload.now) (view slots) area.old) result out.new area.new }
 {
-    let t = hear(edition, head, payload, out);
-    let m = t.parts;
-    let part = m.segment;
-    let seg = part.seg;
-    if seg {
-        let w = heard::heard_of(edition, head);
-        let v = t.route;
-        let at = t.at;
-        return act_segment(w, v, m, &payload[at..], slots, out, area);
-    }
-    slots
+    let Some(t) = hear(edition, head, payload, out) else {
+        return slots;
+    };
+    let w = heard::heard_of(edition, head);
+    act_segment(w, t.route, t.parts, &payload[t.at..], slots, out, area)
 }
 
 // A good frame of another type, whatever edition, slots and message area are.
@@ -265,10 +236,8 @@ pub fn put_other(head: [u8; 5], payload: &[u8], out: &mut [u8])
     requires { Carries false head payload.now × (length out.old ≡ report_size) }
     ensures { ActedAlone head payload.now out.new }
 {
-    let frame = Frame {
-        kind: head[0],
-        destination: head[1],
-        source: head[2],
-    };
-    reports::put(Report::other_frame(frame, payload.len() as u32), out);
+    reports::put(
+        Report::other_frame(heard::frame_of(head), payload.len() as u32),
+        out,
+    );
 }

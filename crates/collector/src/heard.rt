@@ -1,6 +1,6 @@
 // What a good frame hands down, the network header's two addresses, an APDU taken apart once, and what the frame says by itself.
 ghost use Rattle.std.specs.Prelude.{◌≡◌};
-ghost use Rattle.collector.specs.Heard.{heard_of, route_of, parts_of};
+ghost use Rattle.collector.specs.Heard.{frame_of, heard_of, route_of, parts_of};
 
 use apdu::{Edition, Pdu, Segment, fields};
 use npdu::{Address, Npdu, addresses};
@@ -13,16 +13,25 @@ pub struct Heard {
     pub edition: Edition,
 }
 
+// Type, destination and source, from the frame's head.
+pub(crate) fn frame_of(head: [u8; 5]) -> Frame
+    ensures { result ≡ frame_of head }
+{
+    Frame {
+        kind: head[0],
+        destination: head[1],
+        source: head[2],
+    }
+}
+
 // From the frame's head, and the edition.
 pub fn heard_of(edition: Edition, head: [u8; 5]) -> Heard
     ensures { result ≡ heard_of edition head }
 {
-    let frame = Frame {
-        kind: head[0],
-        destination: head[1],
-        source: head[2],
-    };
-    Heard { frame, edition }
+    Heard {
+        frame: frame_of(head),
+        edition,
+    }
 }
 
 // Where a message comes from and where it goes, behind a router or not.
@@ -33,14 +42,14 @@ pub struct Route {
 }
 
 // From the network header that was read.
-pub fn route_of(h: Npdu) -> Route
-    ensures { result ≡ route_of h }
-{
-    let source = addresses::source_of(h);
-    let destination = addresses::destination_of(h);
-    Route {
-        source,
-        destination,
+impl From<Npdu> for Route {
+    ghost from_gives = { λ h r. r ≡ route_of h };
+
+    fn from(h: Npdu) -> Route {
+        Route {
+            source: addresses::source_of(h),
+            destination: addresses::destination_of(h),
+        }
     }
 }
 
@@ -63,41 +72,18 @@ pub fn parts_of(p: Pdu, first: u8) -> Parts
         invoke: fields::invoke_of(p),
         choice: fields::choice_of(p),
     };
-    let segment = fields::segment_of(p);
     Parts {
         kind: fields::kind_of(p),
         apdu,
-        segment,
+        segment: fields::segment_of(p),
         params: fields::params_at(p),
     }
 }
 
-// What a frame of type 5 or 6 says by itself: it was reported, and `parts.segment.seg` is false; or it is a segment, whose APDU begins at a place.
+// A segment that a frame of type 5 or 6 carries, and where its APDU begins.
 #[derive(Clone, Copy)]
 pub struct Told {
     pub at: usize,
     pub route: Route,
     pub parts: Parts,
-}
-
-impl Told {
-    // It was reported.
-    pub const REPORTED: Told = Told {
-        at: 0,
-        route: Route {
-            source: Address::NONE,
-            destination: Address::NONE,
-        },
-        parts: Parts {
-            kind: 0,
-            apdu: Apdu::NONE,
-            segment: Segment {
-                seg: false,
-                mor: false,
-                number: 0,
-                window: 0,
-            },
-            params: 0,
-        },
-    };
 }

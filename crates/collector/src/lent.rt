@@ -1,17 +1,20 @@
 // The same calls over a lent frame store: link and slots go in and come back, the store stays where it is, the edition with whoever lends it.
+// Stays: (d) link, slots, store, report and area are parameters of their own: who calls lends store, report and area each out of its own memory, and a struct of the five would be put together for each call to be taken apart here.
 ghost use Rattle.std.specs.Prelude.{◌≡◌, length};
 ghost use Rattle.reports.specs.Layout.{report_size};
-ghost use Rattle.collector.specs.Lent.{Eats, unfed_by, Hushes, HushesBeside, quiet_by, Frees};
+ghost use Rattle.collector.specs.Acting.{Lent};
+ghost use Rattle.collector.specs.Answers.{ate_of, hushed_of, freed_of};
+ghost use Rattle.collector.specs.Lent.{Eats, Hushes, HushesBeside, Frees};
 
 use crate::frame;
 use apdu::Edition;
 use frames::{Link, Outcome};
+use octets::Refusal;
 use rebuild::Slots;
 
-// The answer to a piece: 60, 59 or 0; the octets eaten; whether a report was written; whether the slots may have moved.
+// The answer to a piece: the octets eaten; whether a report was written; whether the slots may have moved.
 #[derive(Clone, Copy)]
 pub struct Ate {
-    pub refused: u8,
     pub eaten: usize,
     pub reported: bool,
     pub moved: bool,
@@ -22,34 +25,64 @@ pub struct Ate {
 // The answer to a silence; the slots are as they were.
 #[derive(Clone, Copy)]
 pub struct Hushed {
-    pub refused: u8,
     pub reported: bool,
     pub link: Link,
 }
 
-// The answer to a forget order; the link is as it was.
-#[derive(Clone, Copy)]
-pub struct Freed {
-    pub number: u8,
-    pub slots: Slots,
-}
-
-// A refused piece: nothing eaten, nothing changed.
-fn unfed(link: Link, slots: Slots, number: u8) -> Ate
-    ensures { result ≡ unfed_by number link slots }
+// A piece that 60 and the slots' part of 59 passed: what the link ate, and what the last of it ended.
+#[tactic(auto, using(crate::proofs::Eaten::carried, crate::proofs::Eaten::data_inside, crate::proofs::Eaten::data_short, crate::proofs::Eaten::data_taken, crate::proofs::Eaten::eats_carried, crate::proofs::Eaten::eats_damage, crate::proofs::Eaten::eats_left, crate::proofs::Eaten::eats_other, crate::proofs::Eaten::eats_quiet))]
+pub fn eat(
+    edition: Edition,
+    link: Link,
+    slots: Slots,
+    store: &mut [u8],
+    piece: &[u8],
+    report: &mut [u8],
+    area: &mut [u8],
+) -> Result<Ate, Refusal>
+    requires { (length store.old ≡ 501) × Lent report.old slots area.old }
+    ensures { Eats edition link slots store.old report.old area.old piece.now (ate_of link slots result) store.new report.new area.new }
 {
-    Ate {
-        refused: number,
-        eaten: 0,
+    let f = link.feed(piece, store)?;
+    let ate = Ate {
+        eaten: f.eaten,
         reported: false,
         moved: false,
-        link,
+        link: f.link,
         slots,
+    };
+    match f.outcome {
+        Outcome::Quiet => Ok(ate),
+        Outcome::Damage(n) => {
+            frame::put_damage(report, n);
+            Ok(Ate {
+                reported: true,
+                ..ate
+            })
+        }
+        Outcome::Frame => {
+            let head = f.link.head;
+            let n = usize::from(frames::length_of(head));
+            if frame::carries(head) {
+                let slots = frame::act(edition, head, &store[..n], slots, report, area);
+                return Ok(Ate {
+                    reported: true,
+                    moved: true,
+                    slots,
+                    ..ate
+                });
+            }
+            frame::put_other(head, &store[..n], report);
+            Ok(Ate {
+                reported: true,
+                ..ate
+            })
+        }
     }
 }
 
 // Eats octets through the first that causes a report, else all.
-#[tactic(auto, using(crate::proofs::Eaten::carried, crate::proofs::Eaten::data_inside, crate::proofs::Eaten::data_short, crate::proofs::Eaten::data_taken, crate::proofs::Eaten::eats_area, crate::proofs::Eaten::eats_carried, crate::proofs::Eaten::eats_damage, crate::proofs::Eaten::eats_line, crate::proofs::Eaten::eats_other, crate::proofs::Eaten::eats_quiet, crate::proofs::Eaten::eats_slots, crate::proofs::Eaten::fair_slots))]
+#[tactic(auto, using(crate::proofs::Eaten::eats_area, crate::proofs::Eaten::eats_line, crate::proofs::Eaten::eats_slots, crate::proofs::Eaten::fair_slots))]
 pub fn feed(
     edition: Edition,
     link: Link,
@@ -58,138 +91,61 @@ pub fn feed(
     piece: &[u8],
     report: &mut [u8],
     area: &mut [u8],
-) -> Ate
+) -> Result<Ate, Refusal>
     requires { length store.old ≡ 501 }
-    ensures { Eats edition link slots store.old report.old area.old piece.now result store.new report.new area.new }
+    ensures { Eats edition link slots store.old report.old area.old piece.now (ate_of link slots result) store.new report.new area.new }
 {
-    if report.len() != reports::SIZE {
-        return unfed(link, slots, 60);
+    if report.len() != reports::SIZE || area.len() != 65536 {
+        return Err(Refusal::AreaSize);
     }
-    if area.len() != 65536 {
-        return unfed(link, slots, 60);
+    if !rebuild::sound(slots) {
+        return Err(Refusal::UnfitState);
     }
-    let fair = rebuild::sound(slots);
-    if !fair {
-        return unfed(link, slots, 59);
-    }
-    let f = link.feed(piece, store);
-    let refused = f.refused;
-    let eaten = f.eaten;
-    let link = f.link;
-    let ended = f.outcome;
-    match ended {
-        Outcome::Quiet => Ate {
-            refused,
-            eaten,
-            reported: false,
-            moved: false,
-            link,
-            slots,
-        },
-        Outcome::Damage(n) => {
-            frame::put_damage(report, n);
-            Ate {
-                refused,
-                eaten,
-                reported: true,
-                moved: false,
-                link,
-                slots,
-            }
-        }
-        Outcome::Frame => {
-            let head = link.head;
-            let n = frames::length_of(head) as usize;
-            if frame::carries(head) {
-                let slots = frame::act(edition, head, &store[..n], slots, report, area);
-                return Ate {
-                    refused,
-                    eaten,
-                    reported: true,
-                    moved: true,
-                    link,
-                    slots,
-                };
-            }
-            frame::put_other(head, &store[..n], report);
-            Ate {
-                refused,
-                eaten,
-                reported: true,
-                moved: false,
-                link,
-                slots,
-            }
-        }
-    }
-}
-
-// A silence that reports nothing, or is refused.
-fn quiet(link: Link, number: u8) -> Hushed
-    ensures { result ≡ quiet_by number link }
-{
-    Hushed {
-        refused: number,
-        reported: false,
-        link,
-    }
+    eat(edition, link, slots, store, piece, report, area)
 }
 
 // A silence beside slots that 59 passes, whatever they are.
-#[tactic(auto, using(crate::proofs::Hushed::hush_damage, crate::proofs::Hushed::hush_frame, crate::proofs::Hushed::hush_quiet))]
-pub fn hush(link: Link, report: &mut [u8]) -> Hushed
+#[tactic(auto, using(crate::proofs::Hushed::hush_damage, crate::proofs::Hushed::hush_frame, crate::proofs::Hushed::hush_left, crate::proofs::Hushed::hush_quiet))]
+pub fn hush(link: Link, report: &mut [u8]) -> Result<Hushed, Refusal>
     requires { length report.old ≡ report_size }
-    ensures { HushesBeside link report.old result report.new }
+    ensures { HushesBeside link report.old (hushed_of link result) report.new }
 {
-    let f = link.silence();
-    let refused = f.refused;
-    let link = f.link;
-    let ended = f.outcome;
-    match ended {
+    let f = link.silence()?;
+    match f.outcome {
         Outcome::Damage(n) => {
             frame::put_damage(report, n);
-            Hushed {
-                refused,
+            Ok(Hushed {
                 reported: true,
-                link,
-            }
+                link: f.link,
+            })
         }
-        Outcome::Quiet => quiet(link, refused),
-        Outcome::Frame => quiet(link, refused),
+        Outcome::Quiet | Outcome::Frame => Ok(Hushed {
+            reported: false,
+            link: f.link,
+        }),
     }
 }
 
 // The line fell silent.
 #[tactic(auto, using(crate::proofs::Hushed::hush_beside, crate::proofs::Hushed::hush_line, crate::proofs::Hushed::hush_slots))]
-pub fn silence(link: Link, slots: Slots, report: &mut [u8]) -> Hushed
-    ensures { Hushes link slots report.old result report.new }
+pub fn silence(link: Link, slots: Slots, report: &mut [u8]) -> Result<Hushed, Refusal>
+    ensures { Hushes link slots report.old (hushed_of link result) report.new }
 {
     if report.len() != reports::SIZE {
-        return quiet(link, 60);
+        return Err(Refusal::AreaSize);
     }
-    let fair = rebuild::sound(slots);
-    if !fair {
-        return quiet(link, 59);
+    if !rebuild::sound(slots) {
+        return Err(Refusal::UnfitState);
     }
     hush(link, report)
 }
 
-// Frees a slot.
-pub fn forget(link: Link, slots: Slots, s: u8) -> Freed
-    ensures { Frees link slots s result }
+// Frees a slot; the link is as it was.
+pub fn forget(link: Link, slots: Slots, s: u8) -> Result<Slots, Refusal>
+    ensures { Frees link slots s (freed_of slots result) }
 {
-    let fair = rebuild::sound(slots);
-    if !fair {
-        return Freed { number: 59, slots };
+    if !rebuild::sound(slots) || !link.sound() {
+        return Err(Refusal::UnfitState);
     }
-    let left = link.sound();
-    if !left {
-        return Freed { number: 59, slots };
-    }
-    let f = rebuild::forget(slots, s);
-    let slots = f.slots;
-    Freed {
-        number: f.number,
-        slots,
-    }
+    rebuild::forget(slots, s)
 }

@@ -6,10 +6,12 @@ pub mod heard;
 pub mod lent;
 
 ghost use Rattle.std.specs.Prelude.{◌≡◌};
+ghost use Rattle.collector.specs.Answers.{fed_of, fell_of, forgot_of};
 ghost use Rattle.collector.specs.Calls.{fresh_collector, Feeds, Stills, Forgets};
 
 use apdu::Edition;
 use frames::Receiver;
+use octets::Refusal;
 use rebuild::Slots;
 
 // The state that one trunk has; the edition is the one that it began with.
@@ -20,10 +22,9 @@ pub struct Collector {
     pub slots: Slots,
 }
 
-// The answer to a piece: 60, 59 or 0; the octets eaten; whether a report was written.
+// The answer to a piece: the octets eaten; whether a report was written.
 #[derive(Clone, Copy)]
 pub struct Fed {
-    pub refused: u8,
     pub eaten: usize,
     pub reported: bool,
     pub state: Collector,
@@ -32,15 +33,7 @@ pub struct Fed {
 // The answer to a silence.
 #[derive(Clone, Copy)]
 pub struct Fell {
-    pub refused: u8,
     pub reported: bool,
-    pub state: Collector,
-}
-
-// The answer to a forget order: 0, 59 or 56.
-#[derive(Clone, Copy)]
-pub struct Forgot {
-    pub number: u8,
     pub state: Collector,
 }
 
@@ -56,69 +49,59 @@ impl Collector {
         }
     }
 
-    // Eats octets through the first that causes a report, else all.
-    pub fn feed(self, piece: &[u8], report: &mut [u8], area: &mut [u8]) -> Fed
-        ensures { Feeds self report.old area.old piece.now result report.new area.new }
+    // Eats octets through the first that causes a report, else all; 60 or 59 eats nothing and changes nothing.
+    #[tactic(auto, using(crate::proofs::Eaten::feeds_unfed, crate::proofs::Eaten::feeds_fed))]
+    pub fn feed(self, piece: &[u8], report: &mut [u8], area: &mut [u8]) -> Result<Fed, Refusal>
+        ensures { Feeds self report.old area.old piece.now (fed_of self result) report.new area.new }
     {
-        let edition = self.edition;
-        let link = self.receiver.link;
         let mut store = self.receiver.store;
-        let slots = self.slots;
-        let f = lent::feed(edition, link, slots, &mut store, piece, report, area);
-        let link = f.link;
-        let slots = f.slots;
-        let receiver = Receiver { link, store };
-        Fed {
-            refused: f.refused,
+        let f = lent::feed(
+            self.edition,
+            self.receiver.link,
+            self.slots,
+            &mut store,
+            piece,
+            report,
+            area,
+        )?;
+        Ok(Fed {
             eaten: f.eaten,
             reported: f.reported,
             state: Collector {
-                edition,
-                receiver,
-                slots,
+                receiver: Receiver {
+                    link: f.link,
+                    store,
+                },
+                slots: f.slots,
+                ..self
             },
-        }
+        })
     }
 
     // The line fell silent.
-    pub fn silence(self, report: &mut [u8]) -> Fell
-        ensures { Stills self report.old result report.new }
+    pub fn silence(self, report: &mut [u8]) -> Result<Fell, Refusal>
+        ensures { Stills self report.old (fell_of self result) report.new }
     {
-        let edition = self.edition;
-        let link = self.receiver.link;
-        let store = self.receiver.store;
-        let slots = self.slots;
-        let f = lent::silence(link, slots, report);
-        let link = f.link;
-        let receiver = Receiver { link, store };
-        Fell {
-            refused: f.refused,
+        let f = lent::silence(self.receiver.link, self.slots, report)?;
+        Ok(Fell {
             reported: f.reported,
             state: Collector {
-                edition,
-                receiver,
-                slots,
+                receiver: Receiver {
+                    link: f.link,
+                    ..self.receiver
+                },
+                ..self
             },
-        }
+        })
     }
 
-    // Frees a slot.
-    pub fn forget(self, s: u8) -> Forgot
-        ensures { Forgets self s result }
+    // Frees a slot: 59, then 56.
+    pub fn forget(self, s: u8) -> Result<Collector, Refusal>
+        ensures { Forgets self s (forgot_of self result) }
     {
-        let edition = self.edition;
-        let receiver = self.receiver;
-        let link = receiver.link;
-        let slots = self.slots;
-        let f = lent::forget(link, slots, s);
-        let slots = f.slots;
-        Forgot {
-            number: f.number,
-            state: Collector {
-                edition,
-                receiver,
-                slots,
-            },
-        }
+        Ok(Collector {
+            slots: lent::forget(self.receiver.link, self.slots, s)?,
+            ..self
+        })
     }
 }

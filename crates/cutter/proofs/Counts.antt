@@ -1,9 +1,10 @@
 -- How many segments there are: as few as hold the parameters, and at least one.
-use Prim.Native.Nat.{ℕ, zero, suc, ◌+◌, ◌-◌, ◌*◌, ◌/◌, ◌≤◌, ◌<◌}
+use Prim.Native.Nat.{ℕ, zero, suc, ◌+◌, ◌-◌, ◌*◌, ◌/◌, ◌%◌, ◌≤◌, ◌<◌, min, max}
 use native.Mathlib.Omega.{arith}
 use native.Mathlib.Nat.{suc-mul, add-mul, one-mul, mul-le-mul, mul-le-mul_right, div-mul-le_self, lt-div-mul-add, le-div_iff_mul-le}
 use mathlib.Core.Path.{◌≡◌, refl, sym}
 use mathlib.Core.List.{List, ◌++◌}
+use Rattle.std.proofs.lemmas.Grind.{div_ceil_times}
 use lib.Dec.{eqb, ltb}
 use lib.ListN.{length, take, drop, length-drop}
 use lib.Seq.{length-take-le, take-add}
@@ -71,3 +72,33 @@ part_length each k params h m =
 -- the parts before the k-th, and the k-th
 pub parts_join : (each k : ℕ) (params : List ℕ) → take (k * each) params ++ part_of each k params ≡ take ((k + 1) * each) params
 parts_join each k params = rw (add-mul k 1 each, one-mul) (sym (take-add (k * each) each params))
+
+-- rounded up by the library, and at least one
+pub segments_ceil : (each n : ℕ) → 0 < each → max (n / each + min 1 (n % each)) 1 ≡ segments_of each n
+unfolding segments_of
+segments_ceil each n h =
+    let c = n / each + min 1 (n % each) in
+    let t = div_ceil_times n each h in
+    let q = (n + each - 1) / each in
+    let one = less c each in
+    by_test (eqb n 0)
+    (λ e. rw e (by_test (ltb 0 c)
+    (λ p. absurd (omega (arith, eqb-true n 0 e, t.1, one (ltb-true 0 c p))))
+    (λ p. omega (arith, ltb-false 0 c p))))
+    (λ e.
+    let some : 1 ≤ q = (le-div_iff_mul-le h).1 (rw one-mul (omega (arith, eqb-false n 0 e))) in
+    let low : c ≤ q = (le-div_iff_mul-le h).1 (omega (arith, t.1)) in
+    let high : q ≤ c = by_test (ltb c q)
+    (λ p. let m : suc c * each ≤ n + each - 1 = (le-div_iff_mul-le h).0 (omega (arith, ltb-true c q p)) in absurd (omega (arith, m, suc-mul c each, t.0)))
+    (λ p. ltb-false c q p) in
+    rw e (omega arith))
+
+-- a part begins within the parameters
+pub part_starts : (each n k : ℕ) → 0 < each → k < segments_of each n → k * each ≤ n
+part_starts each n k h m =
+    let c = segments_of each n in
+    let l = segments_least each n h in
+    let a : k * each ≤ (c - 1) * each = mul-le-mul_right each (omega arith) in
+    by_test (eqb n 0)
+    (λ e. let z : k ≡ 0 = omega (arith, l.empty (eqb-true n 0 e)) in rw z (omega arith))
+    (λ e. omega (arith, l.needed (omega (arith, eqb-false n 0 e))))

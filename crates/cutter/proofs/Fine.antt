@@ -1,10 +1,10 @@
 -- What is known where nothing is refused.
-use Prim.Native.Nat.{ℕ, ◌≤◌}
+use Prim.Native.Nat.{ℕ, ◌≤◌, ◌<◌}
 use native.Mathlib.Omega.{arith}
 use mathlib.Core.Path.{◌≡◌, refl}
 use mathlib.Core.Bool.{Bool, false}
 use lib.Dec.{ltb, eqb}
-use borrow.Author.Tests.{ltb-false, eqb-true, eqb-false}
+use borrow.Author.Tests.{lt-ltb, le-ltb, ltb-false, eqb-true, eqb-false, ne_eqb}
 use Rattle.octets.specs.Choice.{pick, given, pick_not, by_test}
 use Rattle.npdu.specs.Fault as Network
 use Rattle.apdu.specs.Fault as Header
@@ -68,8 +68,22 @@ fine e m w n z =
       bounded = ltb-false 256 (segments_of w.each n) (past (ltb 256 (segments_of w.each n)) 63 0 (omega arith) b.1).0;
     }
 
--- the message's own numbers, behind a way in its ranges
-pub fault_behind : (e : Edition) (m : Message) (w : Way) (n : ℕ) {h c : ℕ} → front_fault w n ≡ 0 → h ≡ Header.fault_of e (pdu_of m w.window false 0) → c ≡ count_fault (segments_of w.each n)
-    → or_else h c ≡ fault_of e m w n
-unfolding fault_of
-fault_behind e m w n z p q = rw (z, p, q)
+-- ---- what is refused, in order
+module _ (e : Edition) (m : Message) (w : Way) (n : ℕ) where
+  pub front_refused : (x : ℕ) → x ≡ front_fault w n → 1 ≤ x → x ≡ fault_of e m w n
+  unfolding fault_of
+  front_refused x h s = rw (← h, ne_eqb x 0 (λ z. omega arith))
+
+  module _ (front : 0 ≡ front_fault w n) where
+    pub header_refused : (x : ℕ) → x ≡ Header.fault_of e (pdu_of m w.window false 0) → 1 ≤ x → x ≡ fault_of e m w n
+    unfolding fault_of
+    header_refused x h s = rw (← front, ← h, ne_eqb x 0 (λ z. omega arith))
+
+    module _ (header : 0 ≡ Header.fault_of e (pdu_of m w.window false 0)) where
+      pub many_refused : 256 < segments_of w.each n → 63 ≡ fault_of e m w n
+      unfolding fault_of count_fault
+      many_refused h = rw (← front, ← header, lt-ltb 256 (segments_of w.each n) h)
+
+      pub none_refused : segments_of w.each n ≤ 256 → fault_of e m w n ≡ 0
+      unfolding fault_of count_fault
+      none_refused h = rw (← front, ← header, le-ltb 256 (segments_of w.each n) h)

@@ -10,23 +10,10 @@ use npdu::Npdu;
 pub fn network_head(w: Way) -> Npdu
     ensures { result ≡ network_head w }
 {
-    let a = [0u8; 7];
-    let b = [0u8; 7];
     Npdu {
-        message: false,
-        dest: false,
-        source: false,
         reply: w.reply,
         priority: w.priority,
-        dnet: 0,
-        dlen: 0,
-        dadr: a,
-        snet: 0,
-        slen: 0,
-        sadr: b,
-        hops: 0,
-        kind: 0,
-        vendor: 0,
+        ..Npdu::ZERO
     }
 }
 
@@ -34,15 +21,15 @@ pub fn network_head(w: Way) -> Npdu
 pub fn pdu_of(m: Message, window: u8, more: bool, number: u8) -> Pdu
     ensures { result ≡ pdu_of m window more number }
 {
-    let g = Segment {
+    let segment = Segment {
         seg: true,
         mor: more,
-        number: number,
-        window: window,
+        number,
+        window,
     };
     match m {
         Message::Request(q) => Pdu::Request(RequestPdu {
-            segment: g,
+            segment,
             sa: q.sa,
             size: q.size,
             invoke: q.invoke,
@@ -50,7 +37,7 @@ pub fn pdu_of(m: Message, window: u8, more: bool, number: u8) -> Pdu
             accepts: q.accepts,
         }),
         Message::ComplexAck(q) => Pdu::ComplexAck(ComplexAckPdu {
-            segment: g,
+            segment,
             invoke: q.invoke,
             choice: q.choice,
         }),

@@ -1,80 +1,50 @@
 // What is refused, in order, and how much there is to write.
 ghost use Rattle.std.specs.Prelude.{◌≡◌, ◌+◌, ◌*◌, ◌≤◌};
-ghost use Rattle.apdu.specs.Fault.{or_else};
+ghost use Rattle.octets.specs.Refusal as Refusing;
 ghost use Rattle.cutter.specs.Layout.{segments_of};
-ghost use Rattle.cutter.specs.Fault.{front_fault, count_fault, fault_of};
-ghost use Rattle.cutter.specs.Laying.{header_length};
+ghost use Rattle.cutter.specs.Fault.{front_fault};
+ghost use Rattle.cutter.specs.Laying.{header_length, Judged};
 
 use crate::{Message, Way};
 use apdu::Edition;
+use octets::Refusal;
 
-// Before the message is looked at: too many parameter octets, a number of the way out of range, the network header's number.
-pub fn front(w: Way, n: usize) -> u8
-    ensures { result ≡ front_fault w n }
+// Before the message is looked at, of n parameter octets: 39, 64 or 12.
+#[tactic(auto, using(octets::specs::Rules::tests), unfolding(crate::specs::Fault::front_fault, npdu::specs::Fault::fault_of, npdu::specs::Fault::part_fault, npdu::specs::Fault::sooner, octets::specs::Choice::given))]
+pub fn judge_front(w: Way, n: usize) -> Result<(), Refusal>
+    ensures { Refusing.fault_of result ≡ front_fault w n }
 {
     if 16384 < n {
-        return 39;
+        return Err(Refusal::TooManyOctets);
     }
-    if w.each == 0 {
-        return 64;
-    }
-    if 474 < w.each {
-        return 64;
-    }
-    if w.window == 0 {
-        return 64;
-    }
-    if 127 < w.window {
-        return 64;
+    if w.each == 0 || 474 < w.each || w.window == 0 || 127 < w.window {
+        return Err(Refusal::OutOfRange);
     }
     if 3 < w.priority {
-        return 12;
+        return Err(Refusal::NpduReserved);
     }
-    0
+    Ok(())
 }
 
 // The number of segments: n octets by each, rounded up, and one where there are none.
-pub fn segments(each: usize, n: usize) -> usize
+fn segments(each: usize, n: usize) -> usize
     requires { (1 ≤ each) × (each ≤ 474) × (n ≤ 16384) }
     ensures { result ≡ segments_of each n }
 {
-    if n == 0 {
-        return 1;
-    }
-    (n + each - 1) / each
+    n.div_ceil(each).max(1)
 }
 
-// More than 256 segments.
-fn count_fault(count: usize) -> u8
-    ensures { result ≡ count_fault count }
+// The first refusal, or the number of segments: they are counted only once it is known that each has octets.
+pub fn judge(edition: Edition, m: Message, w: Way, n: usize) -> Result<usize, Refusal>
+    ensures { Judged edition m w n result }
 {
+    judge_front(w, n)?;
+    apdu_writer::judge(edition, crate::heads::pdu_of(m, w.window, false, 0))?;
+    let count = segments(w.each, n);
     if 256 < count {
-        return 63;
+        return Err(Refusal::TooManySegments);
     }
-    0
-}
-
-// The earlier refusal, if there is one.
-fn or_else(earlier: u8, later: u8) -> u8
-    ensures { result ≡ or_else earlier later }
-{
-    if earlier == 0 {
-        return later;
-    }
-    earlier
-}
-
-// The first refusal, or 0. The segments are counted only once it is known that each has octets.
-pub fn fault(edition: Edition, m: Message, w: Way, n: usize) -> u8
-    ensures { result ≡ fault_of edition m w n }
-{
-    let before = front(w, n);
-    if before != 0 {
-        return before;
-    }
-    let header = apdu_writer::fault(edition, crate::heads::pdu_of(m, w.window, false, 0));
-    let many = count_fault(segments(w.each, n));
-    or_else(header, many)
+    Ok(count)
 }
 
 // How long an APDU header is.

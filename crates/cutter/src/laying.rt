@@ -1,36 +1,23 @@
 // The segments, one after the other.
 ghost use Rattle.std.specs.Prelude.{◌≡◌, ◌++◌, ◌+◌, ◌≤◌, length};
-ghost use Rattle.octets.specs.Laid.{written_count};
 ghost use Rattle.octets.specs.Splice.{splice, Put};
 ghost use Rattle.npdu.specs.Layout.{encode};
 ghost use Rattle.npdu.specs.Fault as Network;
 ghost use Rattle.apdu.specs.Layout.{header};
 ghost use Rattle.apdu.specs.Fault as Header;
 ghost use Rattle.cutter.specs.Layout.{octets_of};
-ghost use Rattle.cutter.specs.Laying.{end_of, Ready};
+ghost use Rattle.cutter.specs.Laying.{Ready};
 
 use crate::{Message, Way};
 use apdu::{Edition, Pdu};
 use npdu::Npdu;
-use octets::Written;
-
-// How many octets a writer wrote.
-fn wrote(w: Written) -> usize
-    ensures { result ≡ written_count w }
-{
-    match w {
-        Written::Wrote(n) => n,
-        Written::Refused(_) => 0,
-    }
-}
 
 // A network header without a fault at a place, and the place after it.
 fn put_network(h: Npdu, out: &mut [u8], at: usize) -> usize
     requires { (Network.fault_of h ≡ 0) × (at + length (encode h) ≤ length out.old) }
     ensures { Put out.old at (encode h) result out.new }
 {
-    let w = npdu::write(h, &mut out[at..]);
-    at + wrote(w)
+    at + npdu::write(h, &mut out[at..]).unwrap()
 }
 
 // An APDU header without a fault at a place, and the place after it.
@@ -38,8 +25,7 @@ fn put_header(edition: Edition, p: Pdu, out: &mut [u8], at: usize) -> usize
     requires { (Header.fault_of edition p ≡ 0) × (at + length (header p) ≤ length out.old) }
     ensures { Put out.old at (header p) result out.new }
 {
-    let w = apdu_writer::write(edition, p, &mut out[at..]);
-    at + wrote(w)
+    at + apdu_writer::write(edition, p, &mut out[at..]).unwrap()
 }
 
 // One NPDU at a place, and the place after it: both headers and a part of the parameters.
@@ -53,32 +39,17 @@ fn put_npdu(edition: Edition, h: Npdu, p: Pdu, part: &[u8], out: &mut [u8], at: 
     b + part.len()
 }
 
-// Where a part ends that begins at a place of n octets.
-fn part_end(from: usize, each: usize, n: usize) -> usize
-    requires { from ≤ n }
-    ensures { result ≡ end_of from each n }
-{
-    if n - from < each {
-        return n;
-    }
-    from + each
-}
-
 // All of them from the area's front on: the k-th has the number k, and MOR where it is not the last.
 pub fn put_all(edition: Edition, m: Message, w: Way, count: usize, params: &[u8], out: &mut [u8])
     requires { Ready edition m w count params.now out.old }
     ensures { out.new ≡ splice out.old 0 (octets_of m w params.now) }
 {
     let head = crate::heads::network_head(w);
-    let mut at: usize = 0;
-    let mut from: usize = 0;
-    let mut k: usize = 0;
-    while k < count {
-        let next = k + 1;
-        let p = crate::heads::pdu_of(m, w.window, next < count, k as u8);
-        let to = part_end(from, w.each, params.len());
-        at = put_npdu(edition, head, p, &params[from..to], out, at);
-        from = to;
-        k = next;
+    let mut at = 0;
+    for k in 0..count {
+        let rest = &params[k * w.each..];
+        let part = &rest[..rest.len().min(w.each)];
+        let p = crate::heads::pdu_of(m, w.window, k + 1 < count, k as u8);
+        at = put_npdu(edition, head, p, part, out, at);
     }
 }

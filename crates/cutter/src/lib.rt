@@ -1,17 +1,17 @@
 // Messages cut into segments, each behind a network header without addresses.
 #![tactic(auto)]
 
-ghost use Rattle.std.specs.Prelude.{◌≡◌};
-ghost use Rattle.cutter.specs.Fault.{front_fault};
-ghost use Rattle.cutter.specs.Calls.{Cuts};
-ghost use Rattle.cutter.specs.Laying.{refused_by};
-
-use apdu::Edition;
-use octets::Written;
-
 mod heads; // heads.rt: the two headers of a segment
 mod judge; // judge.rt: what is refused, and the number of segments
 mod laying; // laying.rt: the segments, one after the other
+
+ghost use Rattle.std.specs.Prelude.{◌≡◌};
+ghost use Rattle.octets.specs.Refusal.{fault_of};
+ghost use Rattle.cutter.specs.Calls.{Cuts, parted_of};
+ghost use Rattle.cutter.specs.Fault.{front_fault};
+
+use apdu::Edition;
+use octets::Refusal;
 
 // A confirmed request that is to be cut: its fields but SEG, MOR, number and window.
 #[derive(Clone, Copy)]
@@ -46,47 +46,35 @@ pub struct Way {
     pub each: usize,
 }
 
-// The octets written or the number of the refusal, and the number of segments, 0 where it is refused.
+// What was written: the octets, and the number of segments.
 #[derive(Clone, Copy)]
-pub struct Parted {
-    pub answer: Written,
+pub struct Extent {
+    pub octets: usize,
     pub segments: usize,
 }
 
-// The refusal before the message itself is looked at, or 0: 39, 64 or 12, of n parameter octets.
-pub fn front_fault(w: Way, n: usize) -> u8
-    ensures { result ≡ front_fault w n }
+// Whether n parameter octets may be cut so, before the message itself is looked at: 39, 64 or 12.
+pub fn judge_front(w: Way, n: usize) -> Result<(), Refusal>
+    ensures { fault_of result ≡ front_fault w n }
 {
-    judge::front(w, n)
-}
-
-// A refusal: no segments.
-fn refused(number: u8) -> Parted
-    ensures { result ≡ refused_by number }
-{
-    Parted {
-        answer: Written::Refused(number),
-        segments: 0,
-    }
+    judge::judge_front(w, n)
 }
 
 // All NPDUs end to end at the area's front, all but the last of the same length; or 39, 64, 12, 22, 23, 63 or 61, before the first octet is written.
-pub fn cut(edition: Edition, m: Message, w: Way, params: &[u8], out: &mut [u8]) -> Parted
-    ensures { Cuts edition m w params.now out.old result out.new }
+pub fn cut(
+    edition: Edition,
+    m: Message,
+    w: Way,
+    params: &[u8],
+    out: &mut [u8],
+) -> Result<Extent, Refusal>
+    ensures { Cuts edition m w params.now out.old (parted_of result) out.new }
 {
-    let n = params.len();
-    let fault = judge::fault(edition, m, w, n);
-    if fault != 0 {
-        return refused(fault);
+    let segments = judge::judge(edition, m, w, params.len())?;
+    let octets = judge::size(m, segments, params.len());
+    if out.len() < octets {
+        return Err(Refusal::TooSmall);
     }
-    let count = judge::segments(w.each, n);
-    let size = judge::size(m, count, n);
-    if out.len() < size {
-        return refused(61);
-    }
-    laying::put_all(edition, m, w, count, params, out);
-    Parted {
-        answer: Written::Wrote(size),
-        segments: count,
-    }
+    laying::put_all(edition, m, w, segments, params, out);
+    Ok(Extent { octets, segments })
 }

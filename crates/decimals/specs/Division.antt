@@ -1,5 +1,8 @@
 -- A digit by repeated subtraction: what is taken off, and what is left.
-use Rattle.std.specs.Prelude.{ℕ, ◌+◌, ◌*◌, ◌≤◌, ◌<◌, ◌≡◌, List, length, eqb}
+use Rattle.std.specs.Prelude.{ℕ, false, refl, ◌+◌, ◌*◌, ◌≤◌, ◌<◌, ◌≡◌, List, length, eqb}
+use Rattle.std.specs.declared.cmp.Ordering.{Ordering}
+use Rattle.std.specs.declared.cmp.Ordering.TheVariants.{Less, Equal, Greater}
+use Rattle.std.specs.Ordering.{is_lt}
 use Rattle.std.proofs.Common.{arith, add-mul, eqb-true}
 use Rattle.std.proofs.lemmas.Bool.{eqb-false}
 use Rattle.octets.specs.Choice.{by_test}
@@ -16,11 +19,10 @@ pub record Divided (before whole after : List ℕ) (n d : ℕ) : Type 0 where
   pub rest : n ≤ length before → Limbs before → Limbs whole → worth before n < 10 * worth whole n → worth after n < worth whole n
 
 -- not smaller: as large
-pub not_less : (a b : List ℕ) (n r : ℕ) → Compared a b n r → (r ≡ 0 → ⊥) → Limbs b → worth b n ≤ worth a n
-not_less a b n r c h lb =
-    by_test (eqb r 1)
-    (λ e. omega (arith, c.same (eqb-true r 1 e)))
-    (λ e. let s = c.small in let d = eqb-false r 1 e in let t : r ≡ 2 = omega arith in omega (arith, c.more t lb))
+pub not_less : (a b : List ℕ) (n : ℕ) (r : Ordering) → Compared a b n r → is_lt r ≡ false → Limbs b → worth b n ≤ worth a n
+not_less a b n Less c h lb = cc
+not_less a b n Equal c h lb = omega (arith, c.same refl)
+not_less a b n Greater c h lb = omega (arith, c.more refl lb)
 
 -- nothing is borrowed from beyond where the other is not larger
 pub taken_whole : (a b z : List ℕ) (n w : ℕ) → Taken a b z n w → n ≤ length a → Limbs a → worth b n ≤ worth a n → worth z n + worth b n ≡ worth a n

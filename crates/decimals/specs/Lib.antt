@@ -1,4 +1,3 @@
-pub mod Room
 pub mod Worth
 pub mod Order
 pub mod Promises

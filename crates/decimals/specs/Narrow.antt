@@ -1,20 +1,21 @@
 -- Numbers of 64 bits: their order, a digit as a quotient, and the room that the products by ten need.
-use Rattle.std.specs.Prelude.{ℕ, ◌+◌, ◌*◌, ◌/◌, ◌%◌, ◌^◌, ◌≤◌, ◌<◌, Bool, true, false, ◌≡◌, eqb, leb}
-use Rattle.std.proofs.Common.{arith, div-add-mod', div-lt_iff_lt-mul, le-div_iff_mul-le, mod-lt, one-mul, sym, ◌∙◌, lit<, pow_pos, pow_mono, shl_exact, eqb-true, leb-true}
-use Rattle.std.proofs.lemmas.Bool.{eqb-false}
-use Rattle.octets.specs.Choice.{by_test}
+use Rattle.std.specs.Prelude.{ℕ, ◌+◌, ◌*◌, ◌/◌, ◌%◌, ◌^◌, ◌≤◌, ◌<◌, Bool, true, false, ◌≡◌, refl, leb}
+use Rattle.std.specs.declared.cmp.Ordering.{Ordering}
+use Rattle.std.specs.declared.cmp.Ordering.TheVariants.{Less, Equal, Greater}
+use Rattle.std.specs.Ordering.{MatchOrdering, nat_cmp, is_ge, is_le}
+use Rattle.std.specs.Cmp.{ranks}
+use Rattle.std.proofs.Common.{arith, div-add-mod', div-lt_iff_lt-mul, le-div_iff_mul-le, mod-lt, one-mul, sym, ◌∙◌, lit<, pow_pos, pow_mono, shl_exact, leb-true}
 
--- 0: the first is smaller; 1: the two are equal; 2: the first is larger
-pub record Ordered (a b r : ℕ) : Type 0 where
-  pub small : r ≤ 2
-  pub less : r ≡ 0 → a < b
-  pub same : r ≡ 1 → a ≡ b
-  pub more : r ≡ 2 → b < a
+-- which of the two is larger
+pub record Ordered (a b : ℕ) (r : Ordering) : Type 0 where
+  pub less : r ≡ Less → a < b
+  pub same : r ≡ Equal → a ≡ b
+  pub more : r ≡ Greater → b < a
 
 -- larger, or equal where equal will do
-pub record Exceeds (order : ℕ) (r : Bool) : Type 0 where
-  pub yes : r ≡ true → 1 ≤ order
-  pub no : r ≡ false → order ≤ 1
+pub record Exceeds (order : Ordering) (r : Bool) : Type 0 where
+  pub yes : r ≡ true → is_ge order ≡ true
+  pub no : r ≡ false → is_le order ≡ true
 
 -- the same of two numbers
 pub record Reaches (t s : ℕ) (r : Bool) : Type 0 where
@@ -57,19 +58,26 @@ pub record Ready (r s plus minus : ℕ) : Type 0 where
   pub less : minus ≤ plus
   pub most : s ≤ 1152921504606846976
 
+by_rank : {a b : ℕ} {r : Ordering} → MatchOrdering r (a < b) (a ≡ b) (b < a) → Ordered a b r
+by_rank {r = Less} m = record { less = λ e. m; same = λ e. cc; more = λ e. cc }
+by_rank {r = Equal} m = record { less = λ e. cc; same = λ e. m; more = λ e. cc }
+by_rank {r = Greater} m = record { less = λ e. cc; same = λ e. cc; more = λ e. m }
+
+-- so the library compares two numbers
+pub ordered : (a b : ℕ) → Ordered a b (nat_cmp a b)
+ordered a b = by_rank (ranks a b)
+
 -- not smaller: as large
-pub not_below : (a b r : ℕ) → Ordered a b r → 1 ≤ r → b ≤ a
-not_below a b r o h =
-    by_test (eqb r 1)
-    (λ e. omega (arith, o.same (eqb-true r 1 e)))
-    (λ e. let l = o.small in let d = eqb-false r 1 e in let t : r ≡ 2 = omega arith in omega (arith, o.more t))
+pub not_below : (a b : ℕ) (r : Ordering) → Ordered a b r → is_ge r ≡ true → b ≤ a
+not_below a b Less o h = cc
+not_below a b Equal o h = omega (arith, o.same refl)
+not_below a b Greater o h = omega (arith, o.more refl)
 
 -- not larger: at most as large
-pub not_above : (a b r : ℕ) → Ordered a b r → r ≤ 1 → a ≤ b
-not_above a b r o h =
-    by_test (eqb r 1)
-    (λ e. omega (arith, o.same (eqb-true r 1 e)))
-    (λ e. let d = eqb-false r 1 e in let t : r ≡ 0 = omega arith in omega (arith, o.less t))
+pub not_above : (a b : ℕ) (r : Ordering) → Ordered a b r → is_le r ≡ true → a ≤ b
+not_above a b Less o h = omega (arith, o.less refl)
+not_above a b Equal o h = omega (arith, o.same refl)
+not_above a b Greater o h = cc
 
 -- a quotient below ten is a digit
 pub quotient : (r s : ℕ) → r < 10 * s → Quotient r s (r / s) (r % s)

@@ -1,5 +1,7 @@
 -- What the functions on big numbers promise: a number of n limbs before, the same after, and what is answered.
 use Rattle.std.specs.Prelude.{ℕ, ◌+◌, ◌*◌, ◌^◌, ◌≤◌, ◌<◌, ◌≡◌, List, length}
+use Rattle.std.specs.declared.cmp.Ordering.{Ordering}
+use Rattle.std.specs.declared.cmp.Ordering.TheVariants.{Less, Equal, Greater}
 use Rattle.decimals.specs.Worth.{worth}
 use Rattle.decimals.specs.Order.{Limbs}
 
@@ -22,9 +24,8 @@ pub record Taken (before other after : List ℕ) (n borrowed : ℕ) : Type 0 whe
   pub limbs : n ≤ length before → Limbs before → Limbs after
   pub exact : n ≤ length before → worth after n + worth other n ≡ worth before n + borrowed * 4294967296 ^ n
 
--- 0: the first is smaller; 1: the two are equal; 2: the first is larger
-pub record Compared (a b : List ℕ) (n r : ℕ) : Type 0 where
-  pub small : r ≤ 2
-  pub less : r ≡ 0 → Limbs a → worth a n < worth b n
-  pub same : r ≡ 1 → worth a n ≡ worth b n
-  pub more : r ≡ 2 → Limbs b → worth b n < worth a n
+-- which of the two is larger
+pub record Compared (a b : List ℕ) (n : ℕ) (r : Ordering) : Type 0 where
+  pub less : r ≡ Less → Limbs a → worth a n < worth b n
+  pub same : r ≡ Equal → worth a n ≡ worth b n
+  pub more : r ≡ Greater → Limbs b → worth b n < worth a n

@@ -1,48 +1,57 @@
-// The shortest digits of a number (Steele and White; Dragon4): r / s is the number, and plus / s and minus / s half the way to its neighbours.
-ghost use Rattle.std.specs.Prelude.{◌≤◌, ◌<◌};
-ghost use Rattle.decimals.specs.Division.{Divided};
-ghost use Rattle.decimals.specs.Narrow.{Exceeds};
+// The shortest digits of a number (Steele and White; Dragon4): a ratio is the number over a whole, with half the way to its neighbours beside it.
+ghost use Rattle.std.specs.Prelude.{◌≤◌, ◌<◌, ◌+◌, ◌≡◌};
 
-use crate::{limbs, text};
+use crate::text;
+use std::cmp::Ordering;
 
-// Whether t + plus reaches s: the number rounded up to the next power of ten still reads back. An even number owns its bounds.
-pub fn reaches(mut t: [u32; 40], plus: &[u32; 40], s: &[u32; 40], n: usize, even: bool) -> bool
-    requires { n ≤ 40 }
-{
-    limbs::add(&mut t, plus, n);
-    exceeds(limbs::compare(&t, s, n), even)
+// A digit, and whether it ends the shortest decimal.
+#[derive(Clone, Copy)]
+pub struct Figure {
+    pub digit: u8,
+    pub last: bool,
+    pub ghost decimal: { digit ≤ 9 },
 }
 
-// Whether ten times t + plus still falls short of s.
-pub fn short(mut t: [u32; 40], plus: &[u32; 40], s: &[u32; 40], n: usize, even: bool) -> bool
-    requires { n ≤ 40 }
-{
-    limbs::add(&mut t, plus, n);
-    limbs::scale(&mut t, n, 10);
-    !exceeds(limbs::compare(&t, s, n), even)
+// A number that gives its digits, one after the other.
+pub trait Ratio {
+    fn figure(&mut self) -> Figure;
 }
 
-// Larger, or equal where equal will do.
-pub fn exceeds(order: u8, even: bool) -> bool
-    ensures { Exceeds order result }
-{
-    if even { 0 < order } else { 1 < order }
+// A decimal: 0.d1d2.. times ten to (point - 400). At most twenty digits are kept, where seventeen serve every double.
+#[derive(Clone, Copy)]
+pub struct Decimal {
+    octets: [u8; 20],
+    pub count: usize,
+    pub point: usize,
+    pub ghost kept: { count ≤ 20 },
 }
 
-// Takes s from r as often as it goes, and answers how often: at most nine times.
-pub fn digit(r: &mut [u32; 40], s: &[u32; 40], n: usize) -> u8
-    requires { n ≤ 40 }
-    ensures { Divided r.old s.now r.new n result }
-{
-    let mut d: u8 = 0;
-    while d < 9 {
-        if limbs::compare(r, s, n) == 0 {
-            return d;
+impl Decimal {
+    // Digits until one ends the shortest decimal.
+    pub fn shortest<R: Ratio>(ratio: &mut R, point: usize) -> Decimal {
+        let mut octets = [b'0'; 20];
+        for k in 0..20 {
+            let figure = ratio.figure();
+            octets[k] = text::figure(figure.digit);
+            if figure.last {
+                return Decimal {
+                    octets,
+                    count: k + 1,
+                    point,
+                };
+            }
         }
-        limbs::subtract(r, s, n);
-        d += 1;
+        Decimal {
+            octets,
+            count: 20,
+            point,
+        }
     }
-    d
+
+    // The digit's octet at a place; past the last one a zero.
+    pub fn shown(&self, i: usize) -> u8 {
+        if i < 20 { self.octets[i] } else { b'0' }
+    }
 }
 
 // One digit up.
@@ -54,78 +63,25 @@ fn up(d: u8) -> u8
 }
 
 // The nearer of a digit and the next, by how twice the rest compares with the whole; half way, the even one.
-fn nearer(d: u8, order: u8) -> u8
+fn nearer(d: u8, half: Ordering) -> u8
     requires { d ≤ 9 }
     ensures { result ≤ 9 }
 {
-    if order == 0 {
-        return d;
+    match half {
+        Ordering::Less => d,
+        Ordering::Equal if d % 2 == 0 => d,
+        _ => up(d),
     }
-    if order == 1 {
-        if d % 2 == 0 {
-            return d;
-        }
-    }
-    up(d)
 }
 
 // The last digit: the one of the two that reads back, or the nearer where both do.
-pub fn last(d: u8, low: bool, high: bool, order: u8) -> u8
+pub fn last(d: u8, low: bool, high: bool, half: Ordering) -> Figure
     requires { d ≤ 9 }
-    ensures { result ≤ 9 }
 {
-    if !high {
-        return d;
-    }
-    if !low {
-        return up(d);
-    }
-    nearer(d, order)
-}
-
-// How twice the rest compares with the whole.
-fn half(mut t: [u32; 40], s: &[u32; 40], n: usize) -> u8
-    requires { n ≤ 40 }
-{
-    limbs::scale(&mut t, n, 2);
-    limbs::compare(&t, s, n)
-}
-
-// Writes a digit's octet.
-pub fn keep(out: &mut [u8; 20], at: usize, d: u8)
-    requires { (at < 20) × (d ≤ 9) }
-{
-    out[at] = text::figure(d);
-}
-
-// Digits until one ends the shortest decimal: at most twenty are kept, where seventeen serve every double.
-pub fn digits(
-    r: &mut [u32; 40],
-    s: &[u32; 40],
-    plus: &mut [u32; 40],
-    minus: &mut [u32; 40],
-    n: usize,
-    even: bool,
-    out: &mut [u8; 20],
-) -> usize
-    requires { n ≤ 40 }
-    ensures { result ≤ 20 }
-{
-    let mut k: usize = 0;
-    while k < 20 {
-        limbs::scale(r, n, 10);
-        limbs::scale(plus, n, 10);
-        limbs::scale(minus, n, 10);
-        let d = digit(r, s, n);
-        let low = exceeds(limbs::compare(minus, r, n), even);
-        let high = reaches(*r, plus, s, n, even);
-        if low || high {
-            let e = last(d, low, high, half(*r, s, n));
-            keep(out, k, e);
-            return k + 1;
-        }
-        keep(out, k, d);
-        k += 1;
-    }
-    k
+    let digit = match (low, high) {
+        (_, false) => d,
+        (false, true) => up(d),
+        (true, true) => nearer(d, half),
+    };
+    Figure { digit, last: true }
 }

@@ -1,6 +1,16 @@
-// Big numbers: forty limbs of 32 bits, low limb first, of which the first n are in use.
+// Big numbers: forty limbs of 32 bits, low limb first, of which the first are in use.
 ghost use Rattle.std.specs.Prelude.{◌≡◌, ◌+◌, ◌*◌, ◌/◌, ◌%◌, ◌≤◌, ◌<◌};
 ghost use Rattle.decimals.specs.Promises.{Scaled, Added, Taken, Compared};
+ghost use Rattle.decimals.specs.Division.{Divided};
+
+use std::cmp::Ordering;
+
+#[derive(Clone, Copy)]
+pub struct Number {
+    pub limbs: [u32; 40],
+    pub used: usize,
+    pub ghost within: { used ≤ 40 },
+}
 
 // A limb times a factor, and what was carried.
 fn product(x: u32, by: u32, carry: u32) -> u64
@@ -23,43 +33,11 @@ fn high(t: u64) -> u32
     (t / 4294967296) as u32
 }
 
-// Multiplies a number, and answers what does not fit its n limbs.
-pub fn scale(a: &mut [u32; 40], n: usize, by: u32) -> u32
-    requires { n ≤ 40 }
-    ensures { Scaled a.old a.new n by result }
-{
-    let mut carry: u32 = 0;
-    let mut i: usize = 0;
-    while i < n {
-        let t = product(a[i], by, carry);
-        a[i] = low(t);
-        carry = high(t);
-        i += 1;
-    }
-    carry
-}
-
 // Two limbs and a carry.
 fn sum(x: u32, y: u32, carry: u32) -> u64
     ensures { result ≡ x + y + carry }
 {
     (x as u64) + (y as u64) + (carry as u64)
-}
-
-// Adds b to a, and answers what does not fit.
-pub fn add(a: &mut [u32; 40], b: &[u32; 40], n: usize) -> u32
-    requires { n ≤ 40 }
-    ensures { Added a.old b.now a.new n result }
-{
-    let mut carry: u32 = 0;
-    let mut i: usize = 0;
-    while i < n {
-        let t = sum(a[i], b[i], carry);
-        a[i] = low(t);
-        carry = high(t);
-        i += 1;
-    }
-    carry
 }
 
 // What is left of a limb that lends y and a borrow, above 2^32: so that no difference falls below 0.
@@ -78,40 +56,6 @@ fn borrowed(t: u64) -> u32
     if t < 4294967296 { 1 } else { 0 }
 }
 
-// Takes b from a, and answers what was borrowed from beyond: 1 where b is larger.
-pub fn subtract(a: &mut [u32; 40], b: &[u32; 40], n: usize) -> u32
-    requires { n ≤ 40 }
-    ensures { Taken a.old b.now a.new n result }
-{
-    let mut borrow: u32 = 0;
-    let mut i: usize = 0;
-    while i < n {
-        let t = difference(a[i], b[i], borrow);
-        a[i] = low(t);
-        borrow = borrowed(t);
-        i += 1;
-    }
-    borrow
-}
-
-// 0: a is smaller than b; 1: they are equal; 2: a is larger.
-pub fn compare(a: &[u32; 40], b: &[u32; 40], n: usize) -> u8
-    requires { n ≤ 40 }
-    ensures { Compared a.now b.now n result }
-{
-    let mut i = n;
-    while 0 < i {
-        i -= 1;
-        if a[i] < b[i] {
-            return 0;
-        }
-        if b[i] < a[i] {
-            return 2;
-        }
-    }
-    1
-}
-
 // Two to a number below 32.
 fn power(bits: u32) -> u32
     requires { bits < 32 }
@@ -119,12 +63,87 @@ fn power(bits: u32) -> u32
     1u32 << bits
 }
 
-// m times two to a number of bits, into a number that is 0.
-pub fn place(a: &mut [u32; 40], n: usize, m: u64, bits: usize)
-    requires { (n ≤ 40) × (bits ≤ 1200) }
-{
-    let at = bits / 32;
-    a[at] = low(m);
-    a[at + 1] = high(m);
-    scale(a, n, power((bits % 32) as u32));
+impl Number {
+    // Stays: (c) the loops below go by index: tried in `add`, `self.limbs[..n].iter_mut().zip(&other.limbs)` is not covered (add_spec stays open: a field beside a ghost field is lent), and scale and subtract lend the same field.
+    // m times two to a number of bits, in so many limbs.
+    pub fn place(used: usize, m: u64, bits: usize) -> Number
+        requires { (used ≤ 40) × (bits ≤ 1200) }
+    {
+        let mut limbs = [0; 40];
+        let at = bits / 32;
+        limbs[at] = low(m);
+        limbs[at + 1] = high(m);
+        let mut a = Number { limbs, used };
+        a.scale(power((bits % 32) as u32));
+        a
+    }
+
+    // Multiplies a number, and answers what does not fit its limbs.
+    pub fn scale(&mut self, by: u32) -> u32
+        ensures exact { Scaled self.old.limbs self.new.limbs self.old.used by result }
+        ensures used { self.new.used ≡ self.old.used }
+    {
+        let mut carry: u32 = 0;
+        for i in 0..self.used {
+            let t = product(self.limbs[i], by, carry);
+            self.limbs[i] = low(t);
+            carry = high(t);
+        }
+        carry
+    }
+
+    // Adds a number, and answers what does not fit.
+    pub fn add(&mut self, other: &Number) -> u32
+        ensures exact { Added self.old.limbs other.now.limbs self.new.limbs self.old.used result }
+        ensures used { self.new.used ≡ self.old.used }
+    {
+        let mut carry: u32 = 0;
+        for i in 0..self.used {
+            let t = sum(self.limbs[i], other.limbs[i], carry);
+            self.limbs[i] = low(t);
+            carry = high(t);
+        }
+        carry
+    }
+
+    // Takes a number off, and answers what was borrowed from beyond: 1 where it is larger.
+    pub fn subtract(&mut self, other: &Number) -> u32
+        ensures exact { Taken self.old.limbs other.now.limbs self.new.limbs self.old.used result }
+        ensures used { self.new.used ≡ self.old.used }
+    {
+        let mut borrow: u32 = 0;
+        for i in 0..self.used {
+            let t = difference(self.limbs[i], other.limbs[i], borrow);
+            self.limbs[i] = low(t);
+            borrow = borrowed(t);
+        }
+        borrow
+    }
+
+    // How it compares with another, by its own limbs.
+    pub fn compare(&self, other: &Number) -> Ordering
+        ensures { Compared self.now.limbs other.now.limbs self.now.used result }
+    {
+        for i in (0..self.used).rev() {
+            let order = self.limbs[i].cmp(&other.limbs[i]);
+            if order.is_ne() {
+                return order;
+            }
+        }
+        Ordering::Equal
+    }
+
+    // Takes another off as often as it goes, and answers how often: at most nine times.
+    pub fn divide(&mut self, by: &Number) -> u8
+        ensures exact { Divided self.old.limbs by.now.limbs self.new.limbs self.old.used result }
+        ensures used { self.new.used ≡ self.old.used }
+    {
+        for d in 0..9 {
+            if self.compare(by).is_lt() {
+                return d;
+            }
+            self.subtract(by);
+        }
+        9
+    }
 }

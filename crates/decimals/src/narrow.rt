@@ -1,9 +1,20 @@
-// Numbers that fit 64 bits, as those of most sensors do: the digits of `digits`, with one division for each.
+// Numbers that fit 64 bits, as those of most sensors do: the digits of `wide`, with one division for each.
 ghost use Rattle.std.specs.Prelude.{◌≡◌, true, ◌+◌, ◌*◌, ◌≤◌, ◌<◌};
-ghost use Rattle.decimals.specs.Room.{Room};
-ghost use Rattle.decimals.specs.Narrow.{Ordered, Reaches, Quotient, Power, Fits, Growing, Grown, Ready};
+ghost use Rattle.decimals.specs.Narrow.{Reaches, Quotient, Power, Fits, Growing, Grown, Ready};
 
-use crate::{digits, text};
+use crate::Binary;
+use crate::digits::{self, Decimal, Figure, Ratio};
+
+// r / s is the number, and plus / s and minus / s half the way to its neighbours.
+#[derive(Drop)]
+struct Narrow {
+    r: u64,
+    s: u64,
+    plus: u64,
+    minus: u64,
+    even: bool,
+    ghost ready: { Ready r s plus minus },
+}
 
 // What a number is held against, and where the point stands then.
 #[derive(Drop)]
@@ -19,21 +30,11 @@ struct Part {
     rest: u64,
 }
 
-// 0: a is smaller than b; 1: they are equal; 2: a is larger.
-fn compare(a: u64, b: u64) -> u8
-    ensures { Ordered a b result }
-{
-    if a < b {
-        return 0;
-    }
-    if b < a { 2 } else { 1 }
-}
-
 // Whether t reaches s. An even number owns its bounds.
 fn reaches(t: u64, s: u64, even: bool) -> bool
     ensures { Reaches t s result }
 {
-    digits::exceeds(compare(t, s), even)
+    if even { s <= t } else { s < t }
 }
 
 // How often s goes into r.
@@ -55,22 +56,6 @@ fn power(bits: usize) -> u64
     1u64 << bits
 }
 
-// Whether m times two to (up - down) fits, and is at least 2^-16: then at most four zeros stand between the point and its digits.
-pub fn fits(m: u64, up: usize, down: usize) -> bool
-    ensures { result ≡ true → Fits m up down }
-{
-    if 30 < up {
-        return false;
-    }
-    if 58 < down {
-        return false;
-    }
-    if m < power(down + 2) / 262144 {
-        return false;
-    }
-    m <= 72057594037927936 / power(up + 2)
-}
-
 // The whole grows by tens until the number, with half the way to the next, is below it.
 fn grow(near: u64, s: u64, even: bool) -> Whole
     requires { Growing near s }
@@ -78,57 +63,61 @@ fn grow(near: u64, s: u64, even: bool) -> Whole
 {
     let mut t = s;
     let mut point: usize = 400;
+    // Stays: (d) it ends by what has grown, not by a count.
     while reaches(near, t, even) {
         t *= 10;
         point += 1;
     }
-    Whole { s: t, point: point }
+    Whole { s: t, point }
 }
 
-// Digits until one ends the shortest decimal; zeros in front are digits here. Most stand clear of both bounds.
-fn figures(number: u64, s: u64, above: u64, below: u64, even: bool, out: &mut [u8; 20]) -> usize
-    requires { Ready number s above below }
-    ensures { result ≤ 20 }
+// Whether a number fits, and is at least 2^-16: then at most four zeros stand between the point and its digits.
+pub fn fits(b: &Binary) -> bool
+    ensures { result ≡ true → Fits b.now.m b.now.up b.now.down }
 {
-    let mut r = number;
-    let mut plus = above;
-    let mut minus = below;
-    let mut k: usize = 0;
-    while k < 20 {
-        let part = divide(r * 10, s);
-        r = part.rest;
-        plus *= 10;
-        minus *= 10;
-        let near = r + plus;
-        if minus < r && near < s {
-            digits::keep(out, k, part.digit);
-            k += 1;
-            continue;
+    b.up <= 30
+        && b.down <= 58
+        && power(b.down + 2) / 262144 <= b.m
+        && b.m <= 72057594037927936 / power(b.up + 2)
+}
+
+impl Ratio for Narrow {
+    // Zeros in front are digits here.
+    fn figure(&mut self) -> Figure {
+        let Part { digit, rest } = divide(self.r * 10, self.s);
+        let plus = self.plus * 10;
+        let minus = self.minus * 10;
+        let near = rest + plus;
+        // Most digits stand clear of both bounds.
+        if rest <= minus || self.s <= near {
+            let low = reaches(minus, rest, self.even);
+            let high = reaches(near, self.s, self.even);
+            if low || high {
+                return digits::last(digit, low, high, (rest * 2).cmp(&self.s));
+            }
         }
-        let low = reaches(minus, r, even);
-        let high = reaches(near, s, even);
-        if low || high {
-            let e = digits::last(part.digit, low, high, compare(r * 2, s));
-            digits::keep(out, k, e);
-            return k + 1;
-        }
-        digits::keep(out, k, part.digit);
-        k += 1;
+        self.r = rest;
+        self.plus = plus;
+        self.minus = minus;
+        Figure { digit, last: false }
     }
-    k
 }
 
-// The text of a number that fits; nearest: half the way to the neighbour below, as a power of two. All in quarters of the last bit.
-pub fn finite(m: u64, up: usize, down: usize, nearest: usize, out: &mut [u8], at: usize) -> usize
-    requires { Fits m up down × (nearest ≤ up + 1) × Room out.old at }
-    ensures { result ≤ 40 }
+// The decimal of a number that fits.
+pub fn finite(b: &Binary) -> Decimal
+    requires { Fits b.now.m b.now.up b.now.down }
 {
-    let r = m * power(up + 2);
-    let plus = power(up + 1);
-    let minus = power(nearest);
-    let even = m % 2 == 0;
-    let whole = grow(r + plus, power(down + 2), even);
-    let mut kept = [b'0'; 20];
-    let count = figures(r, whole.s, plus, minus, even, &mut kept);
-    text::text(&kept, count, whole.point, out, at)
+    let r = b.m * power(b.up + 2);
+    let plus = power(b.up + 1);
+    let minus = power(b.nearest);
+    let even = b.m % 2 == 0;
+    let whole = grow(r + plus, power(b.down + 2), even);
+    let mut ratio = Narrow {
+        r,
+        s: whole.s,
+        plus,
+        minus,
+        even,
+    };
+    Decimal::shortest(&mut ratio, whole.point)
 }

@@ -1,169 +1,113 @@
-// A decimal as a person writes it, into the first forty octets of an area.
-ghost use Rattle.std.specs.Prelude.{◌≤◌, ◌<◌, length};
-ghost use Rattle.decimals.specs.Room.{Room};
+// A decimal as a person writes it, in at most forty octets.
+ghost use Rattle.std.specs.Prelude.{◌≤◌, ◌<◌};
 
-// One octet more.
-pub fn push(out: &mut [u8], at: usize, b: u8) -> usize
-    requires { Room out.old at }
-    ensures { result ≤ 40 }
-{
-    if at < 40 {
-        out[at] = b;
-        return at + 1;
-    }
-    at
+use crate::digits::Decimal;
+
+#[derive(Drop)]
+pub struct Text<'a> {
+    octets: &'a mut [u8; 40],
+    len: usize,
+    ghost within: { len ≤ 40 },
 }
 
 // A digit's octet.
 pub fn figure(d: u8) -> u8
     requires { d ≤ 9 }
 {
-    48 + d
+    b'0' + d
 }
 
-// The digit's octet at a place; past the last one a zero.
-fn shown(digits: &[u8; 20], i: usize) -> u8 {
-    if i < 20 { digits[i] } else { b'0' }
-}
-
-// The digits from one place to another.
-fn run(digits: &[u8; 20], from: usize, to: usize, out: &mut [u8], at: usize) -> usize
-    requires { Room out.old at }
-    ensures { result ≤ 40 }
-{
-    let mut w = at;
-    let mut i = from;
-    while i < to {
-        w = push(out, w, shown(digits, i));
-        i += 1;
+impl<'a> Text<'a> {
+    // No octet yet.
+    pub fn new(octets: &'a mut [u8; 40]) -> Text<'a> {
+        Text { octets, len: 0 }
     }
-    w
-}
 
-// Zeros.
-fn zeros(count: usize, out: &mut [u8], at: usize) -> usize
-    requires { Room out.old at }
-    ensures { result ≤ 40 }
-{
-    let mut w = at;
-    let mut i: usize = 0;
-    while i < count {
-        w = push(out, w, b'0');
-        i += 1;
+    // How many octets there are.
+    pub fn len(&self) -> usize
+        ensures { result ≤ 40 }
+    {
+        self.len
     }
-    w
-}
 
-// A point and the digits behind it, where there are any.
-fn part(digits: &[u8; 20], from: usize, count: usize, out: &mut [u8], at: usize) -> usize
-    requires { Room out.old at }
-    ensures { result ≤ 40 }
-{
-    if count <= from {
-        return at;
+    // One octet more.
+    pub fn push(&mut self, b: u8) {
+        if self.len < 40 {
+            self.octets[self.len] = b;
+            self.len += 1;
+        }
     }
-    let w = push(out, at, b'.');
-    run(digits, from, count, out, w)
-}
 
-// 0.00123
-fn small(digits: &[u8; 20], count: usize, before: usize, out: &mut [u8], at: usize) -> usize
-    requires { Room out.old at }
-    ensures { result ≤ 40 }
-{
-    let zero = push(out, at, b'0');
-    let point = push(out, zero, b'.');
-    let first = zeros(before, out, point);
-    run(digits, 0, count, out, first)
-}
-
-// 123.4, 100
-fn large(digits: &[u8; 20], count: usize, whole: usize, out: &mut [u8], at: usize) -> usize
-    requires { Room out.old at }
-    ensures { result ≤ 40 }
-{
-    let w = run(digits, 0, whole, out, at);
-    part(digits, whole, count, out, w)
-}
-
-// The digit of a number at 1, 10 or 100, unless only zeros stand before it.
-fn place(n: usize, unit: usize, out: &mut [u8], at: usize) -> usize
-    requires { (0 < unit) × Room out.old at }
-    ensures { result ≤ 40 }
-{
-    if n < unit {
-        return at;
+    // A word.
+    pub fn word(&mut self, w: &[u8]) {
+        for b in w {
+            self.push(*b);
+        }
     }
-    push(out, at, figure((n / unit % 10) as u8))
-}
 
-// A number from 0 to 999.
-fn number(n: usize, out: &mut [u8], at: usize) -> usize
-    requires { Room out.old at }
-    ensures { result ≤ 40 }
-{
-    let hundreds = place(n, 100, out, at);
-    let tens = place(n, 10, out, hundreds);
-    push(out, tens, figure((n % 10) as u8))
-}
-
-// e38, e-45
-fn exponent(point: usize, out: &mut [u8], at: usize) -> usize
-    requires { Room out.old at }
-    ensures { result ≤ 40 }
-{
-    let e = push(out, at, b'e');
-    if 401 <= point {
-        return number(point - 401, out, e);
+    // The digits from one place to another.
+    fn run(&mut self, d: &Decimal, from: usize, to: usize) {
+        for i in from..to {
+            self.push(d.shown(i));
+        }
     }
-    let minus = push(out, e, b'-');
-    number(401 - point, out, minus)
-}
 
-// 3.4028235e38
-fn scientific(digits: &[u8; 20], count: usize, point: usize, out: &mut [u8], at: usize) -> usize
-    requires { Room out.old at }
-    ensures { result ≤ 40 }
-{
-    let first = run(digits, 0, 1, out, at);
-    let rest = part(digits, 1, count, out, first);
-    exponent(point, out, rest)
-}
+    // A point and the digits behind it, where there are any.
+    fn part(&mut self, d: &Decimal, from: usize) {
+        if from < d.count {
+            self.push(b'.');
+            self.run(d, from, d.count);
+        }
+    }
 
-// The digits in the notation for their point: plain from 0.00001 to below 10000000000000000.
-pub fn text(digits: &[u8; 20], count: usize, point: usize, out: &mut [u8], at: usize) -> usize
-    requires { Room out.old at }
-    ensures { result ≤ 40 }
-{
-    if point < 396 {
-        return scientific(digits, count, point, out, at);
+    // 0.00123
+    fn small(&mut self, d: &Decimal, zeros: usize) {
+        self.word(b"0.");
+        for _ in 0..zeros {
+            self.push(b'0');
+        }
+        self.run(d, 0, d.count);
     }
-    if 416 < point {
-        return scientific(digits, count, point, out, at);
-    }
-    if point <= 400 {
-        return small(digits, count, 400 - point, out, at);
-    }
-    large(digits, count, point - 400, out, at)
-}
 
-// A minus sign, where there is one.
-pub fn sign(negative: bool, out: &mut [u8], at: usize) -> usize
-    requires { Room out.old at }
-    ensures { result ≤ 40 }
-{
-    if negative {
-        return push(out, at, b'-');
+    // 123.4, 100
+    fn large(&mut self, d: &Decimal, whole: usize) {
+        self.run(d, 0, whole);
+        self.part(d, whole);
     }
-    at
-}
 
-// A word of three letters.
-pub fn word(a: u8, b: u8, c: u8, out: &mut [u8], at: usize) -> usize
-    requires { Room out.old at }
-    ensures { result ≤ 40 }
-{
-    let first = push(out, at, a);
-    let second = push(out, first, b);
-    push(out, second, c)
+    // The digit of a number at 1, 10 or 100, unless only zeros stand before it.
+    fn place(&mut self, n: usize, unit: usize)
+        requires { 0 < unit }
+    {
+        if unit <= n {
+            self.push(figure((n / unit % 10) as u8));
+        }
+    }
+
+    // A number from 0 to 999.
+    fn number(&mut self, n: usize) {
+        self.place(n, 100);
+        self.place(n, 10);
+        self.push(figure((n % 10) as u8));
+    }
+
+    // 3.4028235e38, 5e-324
+    fn scientific(&mut self, d: &Decimal) {
+        self.run(d, 0, 1);
+        self.part(d, 1);
+        self.push(b'e');
+        if d.point < 401 {
+            self.push(b'-');
+        }
+        self.number(d.point.abs_diff(401));
+    }
+
+    // The digits in the notation for their point: plain from 0.00001 to below 10000000000000000.
+    pub fn decimal(&mut self, d: &Decimal) {
+        match d.point {
+            396..=400 => self.small(d, 400 - d.point),
+            401..=416 => self.large(d, d.point - 400),
+            _ => self.scientific(d),
+        }
+    }
 }

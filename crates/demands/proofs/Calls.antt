@@ -3,35 +3,35 @@ use Prim.Native.Nat.{ℕ}
 use mathlib.Core.Path.{◌≡◌, refl, sym, ap, ◌∙◌}
 use mathlib.Core.List.{List, []}
 use Rattle.octets.specs.Laid.{Laid, answer_of, area_of, laid_one}
-use Rattle.octets.specs.declared.Written.{Written}
+use Rattle.octets.specs.Laid.{Written}
 use Rattle.apdu.specs.declared.Edition.{Edition}
 use Rattle.cutter.specs.Layout.{segments_of, octets_of}
 use Rattle.cutter.specs.Fault.{fault_of}
 use Rattle.cutter.specs.Calls.{count_in, Cuts}
 use Rattle.cutter.specs.declared.Message.{Message}
 use Rattle.cutter.specs.declared.Way.{Way}
-use Rattle.cutter.specs.declared.Parted.{Parted}
+use Rattle.cutter.specs.Calls.{Parted}
 use Rattle.items.specs.Reading.{items_of}
 use Rattle.items.specs.Listing.{Listed, listed_of, listing, listed_one}
-use Rattle.items.specs.declared.Tally.{Tally}
+use Rattle.items.specs.Answers.{Tally}
 use Rattle.messages.specs.Rows.{Done, forget_number, forgotten}
 use Rattle.rebuild.specs.View.{keys, view, unview}
 use Rattle.rebuild.specs.Calls as Rebuild
 use Rattle.rebuild.specs.declared.Key.{Key}
 use Rattle.rebuild.specs.declared.Slots.{Slots}
-use Rattle.rebuild.specs.declared.Taken.{Taken}
-use Rattle.rebuild.specs.declared.Forgot.{Forgot as Freed}
+use Rattle.rebuild.specs.Calls.{Taken}
+use Rattle.rebuild.specs.Calls.{Forgot as Freed}
 use Rattle.rebuild.proofs.Seen.{view_unview}
 use Rattle.rebuild.proofs.Giving as Giving
 use lib.ListN.{length}
 use Rattle.collector.specs.Calls.{written, said_so, feed_refusal, feeding, Feeds, silence_refusal, stilling, Stills, Forgets}
 use Rattle.collector.specs.declared.Collector.{Collector}
-use Rattle.collector.specs.declared.Fed.{Fed}
-use Rattle.collector.specs.declared.Fell.{Fell}
-use Rattle.collector.specs.declared.Forgot.{Forgot}
+use Rattle.collector.specs.Answers.{Fed}
+use Rattle.collector.specs.Answers.{Fell}
+use Rattle.collector.specs.Answers.{Forgot}
 use Rattle.collector.proofs.Alike.{feeds_one, stills_one, forgets_one, state_of, tells, falls, forgot_by, forgets}
 use Rattle.playback.specs.Calls.{playing, Plays}
-use Rattle.playback.specs.declared.Played.{Played}
+use Rattle.playback.specs.Answers.{Played}
 use Rattle.playback.proofs.Alike.{plays_one, played_by, comes}
 use Rattle.reader.specs.declared.Reader.{Reader}
 use denote.Ref.{Bor}

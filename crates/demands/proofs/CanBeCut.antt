@@ -5,10 +5,10 @@ use mathlib.Core.Path.{◌≡◌, refl, ap}
 use mathlib.Core.List.{List, [], ◌++◌}
 use lib.ListN.{length, take}
 use lib.Seq.{take_all}
+use Rattle.std.specs.Prelude.{Ok}
 use Rattle.octets.specs.Splice.{splice, splice_whole}
 use Rattle.octets.specs.Laid.{Laid, laid_over}
-use Rattle.octets.specs.declared.Written.{Written}
-use Rattle.octets.specs.declared.Written.TheVariants.{Wrote}
+use Rattle.octets.specs.Laid.{Written}
 use Rattle.runs.specs.Run.{octs}
 use Rattle.apdu.specs.declared.Edition.{Edition}
 use Rattle.frames.specs.Layout.{frame_octets}
@@ -40,7 +40,7 @@ use Rattle.demands.proofs.ExportedWriting.{cut_call_judged}
 use Rattle.demands.proofs.CutOverOctets.{framed_below, cut_by}
 
 -- a writer without a fault, in an area that is as long as its result
-laid_all : (f : ℕ) (o : List ℕ) → f ≡ 0 → Laid f o o (Wrote (length o)) (splice o 0 o)
+laid_all : (f : ℕ) (o : List ℕ) → f ≡ 0 → Laid f o o (Ok (length o)) (splice o 0 o)
 laid_all f o z = laid_over f (length o) o o (splice o 0 o) z refl (omega arith) refl
 
 wrote_all : (f : ℕ) (o : List ℕ) → f ≡ 0 → Writes f o o 0 (length o) (splice o 0 o)
@@ -69,7 +69,7 @@ can_be_cut_and_fed e m w params kind to from clear =
       record {
         area = o;
         later = splice o 0 o;
-        answer = record { answer = Wrote (length o); segments = n };
+        answer = record { answer = Ok (length o); segments = n };
         cut = record { laid = laid_all (fault_of e m w (length params)) o zero-fault; segments = refl };
         wrote = length o;
         written = refl;

@@ -10,6 +10,7 @@ use mathlib.Core.Option.{Option, none, some}
 use lib.Dec.{eqb, ltb}
 use lib.ListN.{length, length-set, drop}
 use borrow.Author.Tests.{eq-eqb, ne_eqb, eqb-true, le-leb, lt-leb}
+use Rattle.std.specs.Prelude.{Ok, Err}
 use Rattle.octets.specs.Choice.{both_left, given_cases, by_test, impossible}
 use Rattle.octets.specs.Reading.{oct}
 use Rattle.octets.specs.Numbers.{value_at, digits_four}
@@ -20,12 +21,11 @@ use Rattle.trunk.specs.Reading.{Out, held_of, read_from}
 use Rattle.trunk.specs.Reading.Out.{good as whole, damage}
 use Rattle.trunk.specs.Demand.{reading}
 use Rattle.npdu.specs.Reading.{read_npdu}
-use Rattle.npdu.specs.declared.Reading.{Reading}
+use Rattle.npdu.specs.Reading.{Reading}
 use Rattle.apdu.specs.Reading.{read_apdu}
 use Rattle.apdu.proofs.Exact.{kind_read}
 use Rattle.apdu.specs.declared.Edition.{Edition}
-use Rattle.apdu.specs.declared.Answer as Apdu
-use Rattle.apdu.specs.declared.Answer.TheVariants.{Good, Refused}
+use Rattle.apdu.specs.Reading as Apdu
 use Rattle.items.specs.Reading as Items
 use Rattle.items.specs.Reading.{items_of}
 use Rattle.items.specs.Reading.Out.{good, bad}
@@ -79,8 +79,8 @@ Typed m = m.apdu.first / 16 ≡ m.kind
 
 apdu_in : (edition : Edition) (v : Route) (b : List ℕ) (y : Apdu.Answer) → read_apdu edition b ≡ y → (u : Route) (m : Parts) (o : List ℕ) → apdu_content v b y ≡ message u m o → Typed m
 unfolding parts_of
-apdu_in edition v b (Good q) ok u m o e = let z : parts_of q (oct b 0) ≡ m = cc in subst Typed z (kind_read edition b q ok)
-apdu_in edition v b (Refused n) ok u m o e = impossible (cc)
+apdu_in edition v b (Ok q) ok u m o e = let z : parts_of q (oct b 0) ≡ m = cc in subst Typed z (kind_read edition b q ok)
+apdu_in edition v b (Err n) ok u m o e = impossible (cc)
 
 npdu_in : (edition : Edition) (payload : List ℕ) (n : Reading) (u : Route) (m : Parts) (o : List ℕ) → npdu_content edition payload n ≡ message u m o → Typed m
 unfolding npdu_content

@@ -2,8 +2,8 @@
 use Prim.Native.Nat.{ℕ}
 use mathlib.Core.Path.{◌≡◌, refl, ap}
 use mathlib.Core.List.{List}
+use Rattle.std.specs.Prelude.{Ok}
 use Rattle.octets.specs.Reading.{oct}
-use Rattle.octets.specs.declared.Written.TheVariants.{Wrote}
 use Rattle.runs.specs.Run.{octs}
 use Rattle.apdu.specs.declared.Edition.{Edition}
 use Rattle.frames.specs.Layout.{frame_octets}
@@ -48,7 +48,7 @@ module _ (later : ℕ) (fields : List ℕ) (reply priority each window : ℕ) (m
 
   -- what hb_cut cut, the cutter cut
   pub cut_by : {area after : List ℕ} {wrote count : ℕ} → Exported.Cuts e fields (Exported.way_at fields reply priority each) params area 0 wrote count after
-      → Cutter.Cuts e m w params area (record { answer = Wrote wrote; segments = count }) after
+      → Cutter.Cuts e m w params area (record { answer = Ok wrote; segments = count }) after
   cut_by {area} {after} {wrote} {count} c =
       let done = (exported_cut e fields reply priority each params area 0 wrote count after c).done refl in
       rw (← record_window is, record_one is, ← record_one done.1) done.2
@@ -58,7 +58,7 @@ module _ (later : ℕ) (fields : List ℕ) (reply priority each window : ℕ) (m
       record {
         area = c.area;
         later = c.after;
-        answer = record { answer = Wrote c.wrote; segments = count };
+        answer = record { answer = Ok c.wrote; segments = count };
         cut = cut_by c.cut;
         wrote = c.wrote;
         written = refl;

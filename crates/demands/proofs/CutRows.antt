@@ -9,8 +9,8 @@ use mathlib.Core.List.{List}
 use lib.Dec.{ltb, eqb}
 use lib.ListN.{length}
 use borrow.Author.Tests.{ltb-true, ltb-false, le-ltb, eqb-true, eqb-false, ne_eqb}
+use Rattle.std.specs.Prelude.{Ok, Err}
 use Rattle.octets.specs.Choice.{pick, given, by_test}
-use Rattle.octets.specs.declared.Written.TheVariants.{Wrote, Refused}
 use Rattle.npdu.specs.Fault as Network
 use Rattle.npdu.specs.Fault.{sooner, part_fault}
 use Rattle.apdu.specs.Editions.{most}
@@ -165,7 +165,7 @@ cut_numbers e m w params area r later l =
     T : Table
     T = cut_rows e m w params
 
-    by : (n : ℕ) → ((r.answer ≡ Refused n) ↔ (First T n ⊎ Short T o area n)) × ((r.answer ≡ Wrote n) ↔ Long T o area n)
+    by : (n : ℕ) → ((r.answer ≡ Err n) ↔ (First T n ⊎ Short T o area n)) × ((r.answer ≡ Ok n) ↔ Long T o area n)
     by = answers_by T (fault_of e m w (length params)) o area r.answer (cut_judged e w m params) l.laid.answer
 
     Small : ℕ → Type 0

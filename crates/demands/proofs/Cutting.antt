@@ -9,14 +9,13 @@ use lib.Dec.{ltb, eqb}
 use borrow.Author.Tests.{eqb-true, eqb-false}
 use lib.ListN.{length, get_or, take, drop, length-append, length-take, length-drop}
 use lib.Seq.{take_at, drop_at, take_all}
+use Rattle.std.specs.Prelude.{Ok}
 use Rattle.octets.specs.Choice.{by_test}
 use Rattle.octets.specs.Laid.{Laid, laid_wrote}
-use Rattle.octets.specs.declared.Written as Answers
-use Rattle.octets.specs.declared.Written.TheVariants.{Wrote}
+use Rattle.octets.specs.Laid as Answers
 use Rattle.npdu.specs.Layout.{encode}
 use Rattle.apdu.specs.Layout.{header}
 use Rattle.apdu.specs.Reading.{read_apdu}
-use Rattle.apdu.specs.declared.Answer.TheVariants.{Good}
 use Rattle.apdu.specs.declared.Edition.{Edition}
 use Rattle.cutter.specs.Layout.{network_head, pdu_of, segments_of, part_of, npdu_at, first_of, octets_of}
 use Rattle.cutter.specs.Fault.{fault_of}
@@ -25,7 +24,7 @@ use Rattle.cutter.specs.Laying.{header_length}
 use Rattle.cutter.specs.declared.Message.{Message}
 use Rattle.cutter.specs.declared.Message.TheVariants.{Request, ComplexAck}
 use Rattle.cutter.specs.declared.Way.{Way}
-use Rattle.cutter.specs.declared.Parted.{Parted}
+use Rattle.cutter.specs.Calls.{Parted}
 use Rattle.cutter.proofs.Counts.{segments_least, part_length, parts_join}
 use Rattle.cutter.proofs.Lengths.{network_length, pdu_length, npdu_length_lem}
 use Rattle.cutter.proofs.Fine.{Fine, fine}
@@ -129,7 +128,7 @@ module _ (e : Edition) (m : Message) (w : Way) (params : List ℕ) (ok : Fine e 
         head = network_head w;
         network = sym (head_read w apdu ok.range.network);
         plain = record { message = refl; destination = refl; source = refl; reply = refl; priority = refl };
-        application = ap (read_apdu e) (behind_head w apdu) ∙ header_read w.window more k part e m (ok.header more k) ∙ ap Good (same_pdu m w.window count k);
+        application = ap (read_apdu e) (behind_head w apdu) ∙ header_read w.window more k part e m (ok.header more k) ∙ ap Ok (same_pdu m w.window count k);
         parameters = ap (drop (header_size m)) (sym (append_assoc (encode (network_head w)) (header (pdu_of m w.window more k)) part)) ∙ drop_at (encode (network_head w) ++ header (pdu_of m w.window more k)) part (header_size m) front;
       }
 
@@ -176,7 +175,7 @@ pub record Written (e : Edition) (m : Message) (w : Way) (params : List ℕ) (r 
   pub count : r.segments ≡ segments_of w.each (length params)
   pub octets : take n later ≡ octets_of m w params
 
-pub written : {e : Edition} {m : Message} {w : Way} {params area : List ℕ} {r : Parted} {later : List ℕ} → Cuts e m w params area r later → (n : ℕ) → r.answer ≡ Wrote n → Written e m w params r n later
+pub written : {e : Edition} {m : Message} {w : Way} {params area : List ℕ} {r : Parted} {later : List ℕ} → Cuts e m w params area r later → (n : ℕ) → r.answer ≡ Ok n → Written e m w params r n later
 written {e} {m} {w} {params} {area} {r} {later} l n q =
     let o = octets_of m w params in
     let laid = laid_wrote (fault_of e m w (length params)) n o area later (subst (λ (x : Answers.Written). Laid (fault_of e m w (length params)) o area x later) q l.laid) in

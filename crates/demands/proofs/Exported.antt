@@ -8,26 +8,24 @@ use mathlib.Core.List.{List, [], ◌∷◌, ◌++◌, map}
 use lib.Dec.{eqb, leb, ltb}
 use lib.ListN.{length, drop}
 use borrow.Author.Tests.{eq-eqb, eqb-true, eqb-false, ltb-true, ltb-false}
+use Rattle.std.specs.Prelude.{Ok, Err}
 use Rattle.octets.specs.Choice.{pick, both, pick_case, by_test, both_true, true_both, not_so}
 use Rattle.octets.specs.Reading.{Octets, oct}
 use Rattle.octets.specs.Laid.{written_count, Laid, answer_of}
-use Rattle.octets.specs.declared.Written.{Written}
-use Rattle.octets.specs.declared.Written.TheVariants.{Wrote, Refused}
+use Rattle.octets.specs.Laid.{Written}
 use Rattle.npdu.specs.Address.{AddressFits}
 use Rattle.npdu.specs.Reading.{read_npdu}
 use Rattle.npdu.specs.Fault as NetworkFault
 use Rattle.apdu.specs.Reading.{read_apdu}
 use Rattle.apdu.specs.Fault as HeaderFault
-use Rattle.apdu.specs.declared.Answer.{Answer as HeaderAnswer}
-use Rattle.apdu.specs.declared.Answer.TheVariants as HeaderIs
+use Rattle.apdu.specs.Reading.{Answer as HeaderAnswer}
 use Rattle.items.specs.Reading.{items_of}
 use Rattle.items.specs.Listing.{tally_number, tally_count, listed_of}
 use Rattle.item_judge.specs.Judge.{records_in, good_records, write_fault}
 use Rattle.reader.specs.Reading.{step_of}
-use Rattle.reader.specs.declared.Step.{Step}
+use Rattle.reader.specs.Answers.{Step}
 use Rattle.services.specs.Reading.{read_service}
-use Rattle.services.specs.declared.Answer.{Answer as ServiceAnswer}
-use Rattle.services.specs.declared.Answer.TheVariants as ServiceIs
+use Rattle.services.specs.Parts.{Answer as ServiceAnswer}
 use Rattle.services.proofs.Refusals.{AnswerHas, read_has}
 use Rattle.service_writer.specs.Fault as ServiceFault
 use Rattle.messages.specs.Slots.{slot_at}
@@ -38,9 +36,9 @@ use Rattle.reports.specs.Layout.{report_size}
 use Rattle.collector.specs.Calls as Box
 use Rattle.collector.specs.Calls.{slots_of, sized, feeding, stilling}
 use Rattle.collector.specs.declared.Collector.{Collector}
-use Rattle.collector.specs.declared.Fed.{Fed}
-use Rattle.collector.specs.declared.Fell.{Fell}
-use Rattle.collector.specs.declared.Forgot.{Forgot}
+use Rattle.collector.specs.Answers.{Fed}
+use Rattle.collector.specs.Answers.{Fell}
+use Rattle.collector.specs.Answers.{Forgot}
 use Rattle.records.specs.Flag.{flag}
 use Rattle.records.specs.Network.{npdu_size, npdu_at}
 use Rattle.records.specs.Application.{apdu_size, apdu_at}
@@ -448,9 +446,9 @@ exported_npdu_read s fields r next fields' y =
     reads_to y _ (npdu_judges s)
     (λ n. (number_below y.filled n, λ z. (let g = eq-eqb _ _ z in (record_below y.filled n g, place_below y n g))))
 
-apdu_judges : (a : HeaderAnswer) → ((n : ℕ) → a ≡ HeaderIs.Refused n → (20 ≤ n) × (n ≤ 24)) → Judges (apdu_good a) (apdu_number a)
-apdu_judges (HeaderIs.Good p) h = record { not_sixty = λ z. differ 0 60 refl refl z; so = λ g. refl }
-apdu_judges (HeaderIs.Refused n) h = record { not_sixty = λ z. below_60 n 24 (h n refl).1 (omega arith) z; so = λ g. not_so g }
+apdu_judges : (a : HeaderAnswer) → ((n : ℕ) → a ≡ Err n → (20 ≤ n) × (n ≤ 24)) → Judges (apdu_good a) (apdu_number a)
+apdu_judges (Ok p) h = record { not_sixty = λ z. differ 0 60 refl refl z; so = λ g. refl }
+apdu_judges (Err n) h = record { not_sixty = λ z. below_60 n 24 (h n refl).1 (omega arith) z; so = λ g. not_so g }
 
 pub exported_apdu_read : ExportedApduRead
 exported_apdu_read edition s fields r next fields' y =
@@ -487,8 +485,8 @@ exported_step s at item r next item' y =
     ))
 
 service_judges : (a : ServiceAnswer) → AnswerHas (λ n. (30 ≤ n) × (n ≤ 43)) a → Judges (service_good a) (service_number a)
-service_judges (ServiceIs.Good v) h = record { not_sixty = λ z. differ 0 60 refl refl z; so = λ g. refl }
-service_judges (ServiceIs.Refused n) h = record { not_sixty = λ z. below_60 n 43 h.1 (omega arith) z; so = λ g. not_so g }
+service_judges (Ok v) h = record { not_sixty = λ z. differ 0 60 refl refl z; so = λ g. refl }
+service_judges (Err n) h = record { not_sixty = λ z. below_60 n 43 h.1 (omega arith) z; so = λ g. not_so g }
 
 pub exported_service_read : ExportedServiceRead
 exported_service_read kind choice s fields r fields' y =
@@ -526,19 +524,19 @@ module _ (F : ℕ) (o area : List ℕ) (r wrote : ℕ) (later : List ℕ) (y : W
   faulty : (F ≡ 0 → ⊥) → (r ≡ F) × LeftAlone
   faulty n =
       let w = (writers_refuse F o area later (answer_of F o area) (record { answer = refl; after = y.after })).faulty n in
-      let b = by_answer (Refused F) w.0 in
+      let b = by_answer (Err F) w.0 in
       (b.0, (b.1, w.1))
 
   short : F ≡ 0 → length area < length o → (r ≡ 61) × LeftAlone
   short e h =
       let w = (writers_refuse F o area later (answer_of F o area) (record { answer = refl; after = y.after })).short e h in
-      let b = by_answer (Refused 61) w.0 in
+      let b = by_answer (Err 61) w.0 in
       (b.0, (b.1, w.1))
 
   fine : F ≡ 0 → length o ≤ length area → (r ≡ 0) × (wrote ≡ length o) × (later ≡ o ++ drop (length o) area)
   fine e h =
       let w = (writers_refuse F o area later (answer_of F o area) (record { answer = refl; after = y.after })).fine e h in
-      let b = by_answer (Wrote (length o)) w.0 in
+      let b = by_answer (Ok (length o)) w.0 in
       (b.0, b.1, w.1)
 
   ended : (r ≡ 0) ⊎ (((r ≡ F) ⊎ (r ≡ 61)) × LeftAlone)
@@ -550,20 +548,20 @@ module _ (F : ℕ) (o area : List ℕ) (r wrote : ℕ) (later : List ℕ) (y : W
       (λ z. let q = faulty (eqb-false F 0 z) in inr (inl q.0, q.1))
 
 -- what was written: no fault, and the promise of the call below
-pub wrote_laid : (F : ℕ) (o area : List ℕ) (wrote : ℕ) (later : List ℕ) → Writes F o area 0 wrote later → (F ≡ 0) × Laid F o area (Wrote wrote) later
+pub wrote_laid : (F : ℕ) (o area : List ℕ) (wrote : ℕ) (later : List ℕ) → Writes F o area 0 wrote later → (F ≡ 0) × Laid F o area (Ok wrote) later
 wrote_laid F o area wrote later y =
     by_test (eqb F 0)
     (λ z. (eqb-true F 0 z, record { answer = counted_so (eqb-true F 0 z); after = y.after }))
     (λ z. let n = eqb-false F 0 z in absurd (n (sym (faulty F o area 0 wrote later y n).0)))
   where
-    counted_so : F ≡ 0 → Wrote wrote ≡ answer_of F o area
+    counted_so : F ≡ 0 → Ok wrote ≡ answer_of F o area
     counted_so e =
         by_test (ltb (length area) (length o))
         (λ t. differ 61 0 refl (short F o area 0 wrote later y e (ltb-true _ _ t)).0 refl)
         (λ t.
         let h = ltb-false _ _ t in
         let w = (writers_refuse F o area later (answer_of F o area) (record { answer = refl; after = y.after })).fine e h in
-        ap Wrote (fine F o area 0 wrote later y e h).1 ∙ sym w.0)
+        ap Ok (fine F o area 0 wrote later y e h).1 ∙ sym w.0)
 
 writes_from : (Sized : Type 0) (a : Bool) (f : ℕ) (o area : List ℕ) (r wrote : ℕ) (later : List ℕ) → (a ≡ true → Sized) → (Sized → a ≡ true) → (f ≡ 60 → ⊥)
     → Writes (pick a f 60) o area r wrote later → WritesFrom Sized f o area r wrote later

@@ -8,11 +8,11 @@ use mathlib.Core.List.{List, [], ◌∷◌}
 use lib.Dec.{eqb}
 use lib.ListN.{length}
 use borrow.Author.Tests.{eqb-true, eqb-false, eq-eqb}
+use Rattle.std.specs.Prelude.{Ok, Err}
 use Rattle.octets.specs.Choice.{pick, by_test}
 use Rattle.octets.specs.Reading.{oct}
 use Rattle.octets.specs.Laid.{written_count, answer_of, laid_as}
-use Rattle.octets.specs.declared.Written.{Written}
-use Rattle.octets.specs.declared.Written.TheVariants.{Wrote, Refused}
+use Rattle.octets.specs.Laid.{Written}
 use Rattle.apdu.specs.Editions.{most}
 use Rattle.apdu.specs.declared.Edition.{Edition}
 use Rattle.frames.specs.Layout.{frame_octets}
@@ -42,9 +42,9 @@ use Rattle.demands.proofs.Exported.{differ, wrote_laid}
 
 -- ---- the frame writer's answer as a number
 module _ (kind to from : ℕ) (d area : List ℕ) (r wrote : ℕ) (later : List ℕ) where
-  frame_written : (n : ℕ) → FrameWriter.Writes kind to from d area (Wrote n) later → r ≡ 0 → wrote ≡ n → FrameWrite kind to from d area r wrote later
+  frame_written : (n : ℕ) → FrameWriter.Writes kind to from d area (Ok n) later → r ≡ 0 → wrote ≡ n → FrameWrite kind to from d area r wrote later
   frame_written n l z w =
-      let by = frame_writer_numbers kind to from d area (Wrote n) later l in
+      let by = frame_writer_numbers kind to from d area (Ok n) later l in
       let fit = (by.fine n).0 refl in
       record {
         range = (λ q. differ 0 64 refl z q, λ q. absurd (omega (arith, q, fit.0)));
@@ -52,16 +52,16 @@ module _ (kind to from : ℕ) (d area : List ℕ) (r wrote : ℕ) (later : List 
         fine = (λ _. (fit.0, fit.1), λ _. z);
         only = inl z;
         refused = λ q. absurd (q z);
-        done = λ _. subst (λ (x : ℕ). FrameWriter.Writes kind to from d area (Wrote x) later) (sym w) l;
+        done = λ _. subst (λ (x : ℕ). FrameWriter.Writes kind to from d area (Ok x) later) (sym w) l;
       }
 
-  frame_refused : (x : ℕ) → FrameWriter.Writes kind to from d area (Refused x) later → r ≡ x → wrote ≡ 0 → FrameWrite kind to from d area r wrote later
+  frame_refused : (x : ℕ) → FrameWriter.Writes kind to from d area (Err x) later → r ≡ x → wrote ≡ 0 → FrameWrite kind to from d area r wrote later
   frame_refused x l z w =
-      let by = frame_writer_numbers kind to from d area (Refused x) later l in
+      let by = frame_writer_numbers kind to from d area (Err x) later l in
       let not-zero : r ≡ 0 → ⊥ = λ q. ⊎_elim (λ y. differ 64 0 refl (z ∙ y) q) (λ y. differ 61 0 refl (z ∙ y) q) (by.only x refl) in
       record {
-        range = (λ q. by.range.0 (ap Refused (sym z ∙ q)), λ q. z ∙ refused_same x 64 (by.range.1 q));
-        short = (λ q. by.short.0 (ap Refused (sym z ∙ q)), λ q. z ∙ refused_same x 61 (by.short.1 q));
+        range = (λ q. by.range.0 (ap Err (sym z ∙ q)), λ q. z ∙ refused_same x 64 (by.range.1 q));
+        short = (λ q. by.short.0 (ap Err (sym z ∙ q)), λ q. z ∙ refused_same x 61 (by.short.1 q));
         fine = (λ q. absurd (not-zero q), λ q. refused_not x (frame_size d) ((by.fine (frame_size d)).1 (q.0, q.1, refl)));
         only = inr (⊎_elim (λ y. inl (z ∙ y)) (λ y. inr (z ∙ y)) (by.only x refl));
         refused = λ _. (w, by.kept x refl);
@@ -78,8 +78,8 @@ exported_frame_write kind to from d area r wrote later y = by (answer_of F o are
     o = frame_octets kind to from d
 
     by : (a : Written) → answer_of F o area ≡ a → FrameWrite kind to from d area r wrote later
-    by (Wrote n) q = frame_written kind to from d area r wrote later n (record { answer = sym q; after = y.after }) (y.number ∙ ap written_number q) (y.count ∙ ap written_count q)
-    by (Refused x) q = frame_refused kind to from d area r wrote later x (record { answer = sym q; after = y.after }) (y.number ∙ ap written_number q) (y.count ∙ ap written_count q)
+    by (Ok n) q = frame_written kind to from d area r wrote later n (record { answer = sym q; after = y.after }) (y.number ∙ ap written_number q) (y.count ∙ ap written_count q)
+    by (Err x) q = frame_refused kind to from d area r wrote later x (record { answer = sym q; after = y.after }) (y.number ∙ ap written_number q) (y.count ∙ ap written_count q)
 
 -- ---- a record of 13 octets is its octets, one by one
 abbrev octets_by : ℕ → (ℕ → ℕ) → List ℕ
@@ -181,9 +181,9 @@ cut_call_judged e o reply priority each params =
     (λ k. rw k (faulty (λ y. omega arith) (inl (eqb-false (length o) 13 k, refl))))
 
 -- a number that is not 0 is a refusal's
-number_refused : (a : Written) (n : ℕ) → (n ≡ 0 → ⊥) → written_number a ≡ n → a ≡ Refused n
-number_refused (Wrote k) n some e = absurd (some (sym e))
-number_refused (Refused x) n some e = ap Refused e
+number_refused : (a : Written) (n : ℕ) → (n ≡ 0 → ⊥) → written_number a ≡ n → a ≡ Err n
+number_refused (Ok k) n some e = absurd (some (sym e))
+number_refused (Err x) n some e = ap Err e
 
 -- ---- where no row's words hold the record is a message's, and a segment has octets
 module _ (e : Edition) (o : List ℕ) (priority each : ℕ) (params : List ℕ) (clear : NoRow (cut_call_rows e o priority each params)) where
@@ -225,13 +225,13 @@ module _ (e : Edition) (o : List ℕ) (reply priority each : ℕ) (params area :
   counted a q = y.count ∙ ap (λ (x : Written). count_in x (segments_of each (length params))) q
 
   -- a refusal
-  answer_refused : (n : ℕ) → (n ≡ 0 → ⊥) → r ≡ n → answer_of F O area ≡ Refused n
+  answer_refused : (n : ℕ) → (n ≡ 0 → ⊥) → r ≡ n → answer_of F O area ≡ Err n
   answer_refused n some q = number_refused (answer_of F O area) n some (sym y.written.number ∙ q)
 
   leaves : (r ≡ 0 → ⊥) → (wrote ≡ 0) × (segments ≡ 0) × (later ≡ area)
   leaves some =
       let q = answer_refused r some refl in
-      (y.written.count ∙ ap written_count q, counted (Refused r) q, kept_by F O area (Refused r) later (record { answer = sym q; after = y.written.after }) r refl)
+      (y.written.count ∙ ap written_count q, counted (Err r) q, kept_by F O area (Err r) later (record { answer = sym q; after = y.written.after }) r refl)
 
   -- 61, by the size of the result
   abbrev Small : ℕ → Type 0
@@ -251,7 +251,7 @@ module _ (e : Edition) (o : List ℕ) (reply priority each : ℕ) (params area :
   numbered : (n : ℕ) → (n ≡ 0 → ⊥) → (r ≡ n) ↔ (First T n ⊎ Small n)
   numbered n some = (λ q. there (by.0 (answer_refused n some q)), λ q. y.written.number ∙ ap written_number (by.1 (back q)))
     where
-      by : (answer_of F O area ≡ Refused n) ↔ (First T n ⊎ Short T O area n)
+      by : (answer_of F O area ≡ Err n) ↔ (First T n ⊎ Short T O area n)
       by = (answers_by T F O area (answer_of F O area) judged refl n).0
 
       there : First T n ⊎ Short T O area n → First T n ⊎ Small n
@@ -263,12 +263,12 @@ module _ (e : Edition) (o : List ℕ) (reply priority each : ℕ) (params area :
       back (inr h) = inr (small_back n h)
 
   -- what was written is the call's below
-  made : r ≡ 0 → (m : Message) × RecordIs o (oct o 9) m × Cutter.Cuts e m w params area (record { answer = Wrote wrote; segments = segments }) later
+  made : r ≡ 0 → (m : Message) × RecordIs o (oct o 9) m × Cutter.Cuts e m w params area (record { answer = Ok wrote; segments = segments }) later
   made z =
       let l = wrote_laid F O area wrote later (subst (λ (x : ℕ). Writes F O area x wrote later) z y.written) in
       let clear = clear_judged T F judged l.0 in
       let same = fault_same e o w (length params) (sized e o priority each params clear) (is_segmented e o priority each params clear) in
-      (message_at o, is_message e o priority each params clear, record { laid = laid_as same refl l.1; segments = counted (Wrote wrote) (sym l.1.answer) })
+      (message_at o, is_message e o priority each params clear, record { laid = laid_as same refl l.1; segments = counted (Ok wrote) (sym l.1.answer) })
 
 pub exported_cut : ExportedCut
 exported_cut e o reply priority each params area r wrote segments later y =

@@ -8,6 +8,7 @@ use mathlib.Core.Option.{none}
 use lib.Dec.{eqb}
 use lib.ListN.{length, drop}
 use borrow.Author.Tests.{eqb-true, eqb-false}
+use Rattle.std.specs.Prelude.{Ok, Err}
 use Rattle.octets.specs.Choice.{by_test, impossible, given_true, given_false}
 use Rattle.octets.specs.Reading.{oct}
 use Rattle.octets.specs.Numbers.{digits_four}
@@ -15,8 +16,7 @@ use Rattle.npdu.specs.Reading.{read_npdu}
 use Rattle.apdu.specs.Reading.{read_apdu}
 use Rattle.apdu.specs.Fields.{params_at}
 use Rattle.apdu.specs.declared.Edition.{Edition}
-use Rattle.apdu.specs.declared.Answer as Apdu
-use Rattle.apdu.specs.declared.Answer.TheVariants.{Good, Refused}
+use Rattle.apdu.specs.Reading as Apdu
 use Rattle.apdu.specs.declared.Pdu.{Pdu}
 use Rattle.items.specs.Reading.{Out as ItemsRead, items_of}
 use Rattle.items.specs.Listing.{ReadAs}
@@ -66,7 +66,7 @@ module _ (edition : Edition) (h d : List ℕ) where
   network_told : {o : List ℕ} → Behind h d true o → plain_at edition (good h d) ≡ kind7 h (length o)
   network_told {o} k = plain_by edition h d (is_network edition h d k) ∙ report_laid (network_message (heard_of edition h).frame (length o))
 
-  bad_told : {a : List ℕ} {n : ℕ} → Behind h d false a → read_apdu edition a ≡ Refused n → plain_at edition (good h d) ≡ kind6 h n
+  bad_told : {a : List ℕ} {n : ℕ} → Behind h d false a → read_apdu edition a ≡ Err n → plain_at edition (good h d) ≡ kind6 h n
   bad_told {a} {n} k e = plain_by edition h d (is_bad edition h d k e) ∙ report_laid (refusal (heard_of edition h).frame n)
 
   -- a PDU is a segment or not
@@ -75,8 +75,8 @@ module _ (edition : Edition) (h d : List ℕ) where
       let k = sym (given_true (parts_of p (oct a 0)).segment.seg _ _ (parts_seg p (oct a 0) ∙ e)) ∙ sym (segment_by edition h d (is_message edition h d c)) ∙ z in impossible (cc)
 
   by_apdu : {a o : List ℕ} (y : Apdu.Answer) → read_apdu edition a ≡ y → Behind h d false a → segment_at edition (good h d) ≡ none → plain_at edition (good h d) ≡ o → PlainReport edition h d o
-  by_apdu {a} (Refused n) e k z q = PlainReport.apdu_refused a n k e (sym q ∙ bad_told k e)
-  by_apdu {a} (Good p) e k z q =
+  by_apdu {a} (Err n) e k z q = PlainReport.apdu_refused a n k e (sym q ∙ bad_told k e)
+  by_apdu {a} (Ok p) e k z q =
       let c : Carries edition h d a p (drop (params_at p) a) = record { behind = k; read = (e, refl) } in
       by_test (seg_in p) (λ s. absurd (seg_is c s z)) (λ s. by_tags_lem a (drop (params_at p) a) p c (items_of (drop (params_at p) a)) refl s q)
 

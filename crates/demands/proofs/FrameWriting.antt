@@ -8,11 +8,11 @@ use lib.Dec.{ltb}
 use lib.ListN.{length, take, drop}
 use lib.Seq.{take_at}
 use borrow.Author.Tests.{ltb-true, ltb-false}
+use Rattle.std.specs.Prelude.{Ok}
 use Rattle.octets.specs.Choice.{impossible}
 use Rattle.octets.specs.Reading.{oct}
 use Rattle.octets.specs.Laid.{laid_wrote}
-use Rattle.octets.specs.declared.Written.{Written}
-use Rattle.octets.specs.declared.Written.TheVariants.{Wrote}
+use Rattle.octets.specs.Laid.{Written}
 use Rattle.runs.specs.Run.{Event}
 use Rattle.frames.specs.Layout.{head_of, frame_octets}
 use Rattle.frames.specs.Step.{most}
@@ -80,7 +80,7 @@ frame_writer_numbers kind to from d area r later l =
     within size (inr h) = (at_most 501 (length d) h.0.0, subst (λ (x : ℕ). length area < x) size h.2)
 
 -- ---- what was written stands in front of the area
-pub wrote_frame : (kind to from : ℕ) (d area : List ℕ) (n : ℕ) (later : List ℕ) → Writes kind to from d area (Wrote n) later → (n ≡ length (frame_octets kind to from d)) × (take n later ≡ frame_octets kind to from d)
+pub wrote_frame : (kind to from : ℕ) (d area : List ℕ) (n : ℕ) (later : List ℕ) → Writes kind to from d area (Ok n) later → (n ≡ length (frame_octets kind to from d)) × (take n later ≡ frame_octets kind to from d)
 wrote_frame kind to from d area n later l =
     let w = laid_wrote (fault_of d) n (frame_octets kind to from d) area later l in
     (w.1, rw w.2 (take_at (frame_octets kind to from d) (drop (length (frame_octets kind to from d)) area) n (sym w.1)))
@@ -94,7 +94,7 @@ pub frames_read_back : FramesReadBack
 frames_read_back kind to from d area n later l r so front rest free bs q e =
     let w = wrote_frame kind to from d area n later l in
     let es = front ++ (came (take n later) ++ rest) in
-    let fits : length d ≤ most = (((frame_writer_numbers kind to from d area (Wrote n) later l).fine n).0 refl).0 in
+    let fits : length d ≤ most = (((frame_writer_numbers kind to from d area (Ok n) later l).fine n).0 refl).0 in
     let size : n ≡ length (frame_octets kind to from d) = w.0 in
     let span : length (came (frame_octets kind to from d)) ≡ length (frame_octets kind to from d) = length_came (frame_octets kind to from d) in (
       head_of kind to from (length d),
@@ -144,7 +144,7 @@ frames_write_back r so es bs q h d e area a later room l =
     let there = (outcomes_from r so es bs q (good h d)).0 e in
     let y = frame_laid h d there.whole refl in
     let n = frame_size d in
-    let wrote : a ≡ Wrote n = ((frame_writer_numbers (oct h 0) (oct h 1) (oct h 2) d area a later l).fine n).1 (y.fits, room, refl) in
+    let wrote : a ≡ Ok n = ((frame_writer_numbers (oct h 0) (oct h 1) (oct h 2) d area a later l).fine n).1 (y.fits, room, refl) in
     let w = wrote_frame (oct h 0) (oct h 1) (oct h 2) d area n later (subst (λ (x : Written). Writes (oct h 0) (oct h 1) (oct h 2) d area x later) wrote l) in
     let same : frame_octets (oct h 0) (oct h 1) (oct h 2) d ≡ frame_octets y.kind y.to y.from d = ap (λ (x : List ℕ). frame_octets (oct x 0) (oct x 1) (oct x 2) d) y.head in
     let span : there.span ≡ came (take n later) = y.span ∙ ap came (sym (w.1 ∙ same)) in

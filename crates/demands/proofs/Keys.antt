@@ -11,6 +11,7 @@ use lib.Dec.{eqb, ltb, lit<}
 use lib.ListN.{length, take, drop}
 use lib.Seq.{length-take-le}
 use borrow.Author.Tests.{ltb-false}
+use Rattle.std.specs.Prelude.{Ok, Err}
 use Rattle.octets.specs.Choice.{both, non, given, pick_case, pick_cases, given_cases, both_right, non_true, impossible, not_so}
 use Rattle.octets.specs.Every.{octets_none, octets_more, octets_join}
 use Rattle.octets.specs.Reading.{oct, Octets}
@@ -28,8 +29,7 @@ use Rattle.npdu.proofs.Exact.{npdu_exactly}
 use Rattle.apdu.specs.Reading.{read_apdu}
 use Rattle.apdu.specs.declared.Edition.{Edition}
 use Rattle.apdu.specs.declared.Pdu.{Pdu}
-use Rattle.apdu.specs.declared.Answer as Apdu
-use Rattle.apdu.specs.declared.Answer.TheVariants.{Good, Refused}
+use Rattle.apdu.specs.Reading as Apdu
 use Rattle.messages.specs.Slots.{room, Segment, Slot, Box, boxed, lowest, or_else, is_some, empty, slot_at, is_free, slot_of}
 use Rattle.messages.specs.Rows as Rows
 use Rattle.messages.specs.Rows.{Answer, rebuild}
@@ -154,7 +154,7 @@ module _ (e : Edition) (head payload : List ℕ) where
   record From (g : Segment Key) : Type 0 where
     pub network : (read_npdu payload).refused ≡ 0
     pub pdu : Pdu
-    pub application : read_apdu e behind ≡ Good pdu
+    pub application : read_apdu e behind ≡ Ok pdu
     pub key : g.key ≡ key_of (heard_of e head) (route_of (read_npdu payload).head) (parts_of pdu (oct behind 0))
 
   abbrev Told : Option (Segment Key) → Type 0
@@ -167,13 +167,13 @@ module _ (e : Edition) (head payload : List ℕ) where
   Fine x = Told (segment_in (heard_of e head) x)
 
   apdu_told : (read_npdu payload).refused ≡ 0 → (y : Apdu.Answer) → read_apdu e behind ≡ y → Fine (apdu_content (route_of (read_npdu payload).head) behind y)
-  apdu_told z (Good p) r =
+  apdu_told z (Ok p) r =
       given_cases Told _ _ _
       (λ _ g q.
       let is : segment_from (heard_of e head) (route_of (read_npdu payload).head) (parts_of p (oct behind 0)) behind ≡ g = cc in
       record { network = z; pdu = p; application = r; key = ap (λ (x : Segment Key). x.key) (sym is) })
       (λ _. none_told)
-  apdu_told z (Refused n) r = none_told
+  apdu_told z (Err n) r = none_told
 
   npdu_told : Fine (npdu_content e payload (read_npdu payload))
   unfolding npdu_content

@@ -51,3 +51,4 @@ pub mod CutOctets
 pub mod CutAndFed
 pub mod CutOverOctets
 pub mod CanBeCut
+pub mod Apart

@@ -8,8 +8,8 @@ use lib.ListN.{length}
 use Rattle.items.specs.Reading.{Out, items_of, most_items}
 use Rattle.items.specs.Reading.Out.{good, bad}
 use Rattle.items.specs.Listing.{tally_number, tally_count, ReadAs, listing, Listed}
-use Rattle.items.specs.declared.Tally.{Tally}
-use Rattle.items.specs.declared.Tally.TheVariants.{Items, Small}
+use Rattle.items.specs.Answers.{Tally}
+use Rattle.items.specs.Answers.Tally.{Items, Small}
 use Rattle.items.proofs.Cases.{items_given, small_given, refused_given, items_say, small_says, refused_says, refused_left, small_left, none_left, items_left, area_kept}
 use Rattle.items.proofs.Most.{read_most, read_none, none_read}
 use Rattle.demands.specs.Words.{Between, ListNumbered}

@@ -13,7 +13,7 @@ use Rattle.npdu.specs.Fault.{part_rules, part_fault, sooner, fault_of}
 use Rattle.npdu.specs.Layout.{bit_of, control_of, part_laid, part_octets, hop_octets, message_laid, message_octets, parts_octets, tail_octets, encode, cut}
 use Rattle.npdu.specs.Reading.{no_part, address_of, part_len, part_net, part_of, part_if, ended, vendor_at, message_at, tail_at, refused_by, joined, after_tail, after_source, after_dest, after_version, read_npdu}
 use Rattle.npdu.specs.declared.Npdu.{Npdu}
-use Rattle.npdu.specs.declared.Reading.{Reading}
+use Rattle.npdu.specs.Reading.{Reading}
 use Rattle.npdu.proofs.Faults.{fault_0, fault_12, fault_13, fault_14, written_number_lem}
 use Rattle.npdu.proofs.Judged.{judged}
 use Rattle.npdu.proofs.Outcome.{outcome, Refusal}

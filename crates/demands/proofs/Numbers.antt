@@ -11,16 +11,16 @@ use borrow.Author.Tests.{ltb-true, ltb-false, lt-ltb, le-ltb}
 use Rattle.octets.specs.Choice.{pick_case, given_cases, by_test, impossible}
 use Rattle.tags.specs.Types.{longest}
 use Rattle.tags.specs.Reading.{head_at}
-use Rattle.tags.specs.declared.Tag.{Tag}
-use Rattle.tags.specs.declared.Tag.TheVariants.{Item, Opening, Closing}
+use Rattle.tags.specs.Head.{Tag}
+use Rattle.tags.specs.Head.Tag.{Item, Opening, Closing}
 use Rattle.tags.proofs.Refusals.{TagHas}
 use Rattle.items.specs.Reading.{Out, walk, items_of, item_at, one_at, end_of, most_items}
 use Rattle.items.specs.Reading.Out.{good, bad}
-use Rattle.items.specs.declared.One.{One as OneItem}
+use Rattle.items.specs.Answers.{One as OneItem}
 use Rattle.items.proofs.Refusals.{OutHas, head_has, walk_has, item_has}
 use Rattle.items.proofs.Longest.{one_over, one_within}
 use Rattle.reader.specs.Reading.{shown, judged, step_of}
-use Rattle.reader.specs.declared.Step.{Step}
+use Rattle.reader.specs.Answers.{Step}
 use Rattle.reader.proofs.Heads.{step_over}
 use Rattle.npdu.specs.Fault.{part_rules, part_fault, sooner, fault_of}
 use Rattle.npdu.specs.Reading.{read_npdu, refused_by}

@@ -8,17 +8,17 @@ use mathlib.Core.List.{List, [], ◌∷◌}
 use lib.Dec.{eqb, ltb}
 use lib.ListN.{length}
 use borrow.Author.Tests.{eqb-true, eqb-false, ltb-true, ltb-false}
+use Rattle.std.specs.Prelude.{Ok, Err}
 use Rattle.octets.specs.Choice.{by_test, pick_case, impossible}
 use Rattle.octets.specs.Laid.{laid_one, laid_fault, laid_short, laid_over, laid_as}
 use Rattle.octets.specs.Splice.{splice, splice_front}
-use Rattle.octets.specs.declared.Written.TheVariants.{Wrote, Refused}
 use Rattle.item_judge.specs.Judge.{records_in, good_records, write_fault}
 use Rattle.item_judge.proofs.Sixty as Judge
 use Rattle.frames.specs.Step.{sound_of, step_of, reports_of, feed_from, feed_of, silence_of}
 use Rattle.frames.specs.declared.Outcome.{Outcome}
 use Rattle.frames.specs.declared.Outcome.TheVariants.{Quiet}
 use Rattle.frames.specs.declared.Receiver.{Receiver}
-use Rattle.frames.specs.declared.Fed.{Fed}
+use Rattle.frames.specs.Answers.{Fed}
 use Rattle.frames.proofs.Calls.{feed_none, feed_refused, silence_refused, eaten_most, eaten_some}
 use Rattle.messages.proofs.Tests.{never}
 use Rattle.demands.specs.Demands.{WritersRefuse, SixtyTwo, SixtyOne, ReceiverKeeps, ReceiverEats}
@@ -40,10 +40,10 @@ sixty_one f o area later r ne l =
     let e : f ≡ 0 = eqb-true f 0 z in
     by_test (ltb (length area) (length o))
     (λ t. let h = ltb-true _ _ t in (λ q. (e, h), λ q. (w.short e h).0))
-    (λ t. let h = ltb-false _ _ t in (λ q. (let a : Wrote (length o) ≡ Refused 61 = sym (w.fine e h).0 ∙ q in impossible (cc)), λ q. absurd (omega (arith, q.1)))))
+    (λ t. let h = ltb-false _ _ t in (λ q. (let a : Ok (length o) ≡ Err 61 = sym (w.fine e h).0 ∙ q in impossible (cc)), λ q. absurd (omega (arith, q.1)))))
     (λ z.
     let e = eqb-false f 0 z in
-    (λ q. (let a : Refused f ≡ Refused 61 = sym (w.faulty e).0 ∙ q in let y : f ≡ 61 = cc in absurd (ne y)), λ q. absurd (e q.0)))
+    (λ q. (let a : Err f ≡ Err 61 = sym (w.faulty e).0 ∙ q in let y : f ≡ 61 = cc in absurd (ne y)), λ q. absurd (e q.0)))
 
 pub sixty_two : SixtyTwo
 unfolding write_fault

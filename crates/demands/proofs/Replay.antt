@@ -33,7 +33,7 @@ use Rattle.playback.specs.Valid.Behind.{bad as broken}
 use Rattle.playback.specs.Reading.{order_of, read_records}
 use Rattle.playback.specs.Calls.{one, more, then_go, play, Course, reached, by_front, course_of, barred, play_refusal, playing, Comes, Ready}
 use Rattle.playback.specs.Offering.{OneByOne}
-use Rattle.playback.specs.declared.Played.{Played}
+use Rattle.playback.specs.Answers.{Played}
 use Rattle.playback.proofs.Records.{records_exactly, front_behind}
 use Rattle.playback.proofs.Judging.{ready_by}
 use Rattle.playback.proofs.Playing.{play_most, play_some, play_all}

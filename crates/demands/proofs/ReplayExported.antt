@@ -33,7 +33,7 @@ use Rattle.state.proofs.Whole.{Shaped, fits_shaped}
 use Rattle.state.proofs.Exact.{accepted, loads_only, shaped_loads}
 use Rattle.playback.specs.Calls.{one, then_go, play, Course, course_of, play_refusal, playing}
 use Rattle.playback.specs.Reading.{read_records}
-use Rattle.playback.specs.declared.Played.{Played}
+use Rattle.playback.specs.Answers.{Played}
 use Rattle.hitchbarley.specs.Trunk as Trunk
 use Rattle.hitchbarley.specs.Trunk.{Left, state_by, state_of, bar, inside, feed_bar}
 use Rattle.hitchbarley.specs.Replay.{came_to, replay_left, Replays}

@@ -9,10 +9,10 @@ use lib.Dec.{ltb, eqb}
 use lib.ListN.{length, drop, length-append, length-drop}
 use lib.Seq.{drop_at}
 use borrow.Author.Tests.{ltb-true, ltb-false, lt-ltb, le-ltb, eq-eqb, ne_eqb}
+use Rattle.std.specs.Prelude.{Ok, Err}
 use Rattle.octets.specs.Choice.{pick, by_test, pick_cases, impossible}
 use Rattle.octets.specs.Laid.{answer_of, area_of, Laid, laid_wrote}
-use Rattle.octets.specs.declared.Written.{Written}
-use Rattle.octets.specs.declared.Written.TheVariants.{Wrote, Refused}
+use Rattle.octets.specs.Laid.{Written}
 use Rattle.messages.specs.Table.{Table, First, NoRow}
 use Rattle.messages.specs.Table.Table.{end, row}
 use Rattle.messages.proofs.Table.{first_one, first_none}
@@ -50,13 +50,13 @@ pub at_most : (m n : ℕ) → (m < n → ⊥) → n ≤ m
 at_most m n h = by_test (ltb m n) (λ t. absurd (h (ltb-true m n t))) (λ t. ltb-false m n t)
 
 -- ---- answers apart
-pub refused_same : (m n : ℕ) → Refused m ≡ Refused n → m ≡ n
+pub refused_same : (m n : ℕ) → ◌≡◌ {A = Written} (Err m) (Err n) → m ≡ n
 refused_same m n e = cc
 
-wrote_same : (m n : ℕ) → Wrote m ≡ Wrote n → m ≡ n
+wrote_same : (m n : ℕ) → ◌≡◌ {A = Written} (Ok m) (Ok n) → m ≡ n
 wrote_same m n e = cc
 
-pub refused_not : {P : Type 0} (m n : ℕ) → Refused m ≡ Wrote n → P
+pub refused_not : {P : Type 0} (m n : ℕ) → ◌≡◌ {A = Written} (Err m) (Ok n) → P
 refused_not m n e = impossible (cc)
 
 -- ---- what a writer answers: the octets o in an area, where no row's words hold
@@ -67,32 +67,32 @@ abbrev pub Long : Table → (o area : List ℕ) → ℕ → Type 0
 Long T o area n = NoRow T × (length o ≤ length area) × (n ≡ length o)
 
 module _ (T : Table) (f : ℕ) (o area : List ℕ) (r : Written) (j : Judged T f) (answer : r ≡ answer_of f o area) where
-  answer_faulty : (f ≡ 0 → ⊥) → r ≡ Refused f
+  answer_faulty : (f ≡ 0 → ⊥) → r ≡ Err f
   unfolding answer_of
   answer_faulty s = answer ∙ rw (ne_eqb f 0 s)
 
-  answer_short : f ≡ 0 → length area < length o → r ≡ Refused 61
+  answer_short : f ≡ 0 → length area < length o → r ≡ Err 61
   unfolding answer_of
   answer_short z l = answer ∙ rw (eq-eqb f 0 z, lt-ltb (length area) (length o) l)
 
-  answer_long : f ≡ 0 → length o ≤ length area → r ≡ Wrote (length o)
+  answer_long : f ≡ 0 → length o ≤ length area → r ≡ Ok (length o)
   unfolding answer_of
   answer_long z l = answer ∙ rw (eq-eqb f 0 z, le-ltb (length area) (length o) l)
 
   -- a fault is the first row's number
-  by_fault : (f ≡ 0 → ⊥) → First T f → (n : ℕ) → ((r ≡ Refused n) ↔ (First T n ⊎ Short T o area n)) × ((r ≡ Wrote n) ↔ Long T o area n)
+  by_fault : (f ≡ 0 → ⊥) → First T f → (n : ℕ) → ((r ≡ Err n) ↔ (First T n ⊎ Short T o area n)) × ((r ≡ Ok n) ↔ Long T o area n)
   by_fault s g n =
       let is = answer_faulty s in (
         (λ q. (let same : f ≡ n = refused_same f n (sym is ∙ q) in inl (subst (First T) same g)), there),
         (λ q. refused_not f n (sym is ∙ q), λ q. absurd (first_none T f g q.0)),
       )
     where
-      there : First T n ⊎ Short T o area n → r ≡ Refused n
-      there (inl h) = answer_faulty s ∙ ap Refused (first_one T f n g h)
+      there : First T n ⊎ Short T o area n → r ≡ Err n
+      there (inl h) = answer_faulty s ∙ ap Err (first_one T f n g h)
       there (inr h) = absurd (first_none T f g h.0)
 
   -- without one the area decides
-  by_area : f ≡ 0 → NoRow T → (n : ℕ) → ((r ≡ Refused n) ↔ (First T n ⊎ Short T o area n)) × ((r ≡ Wrote n) ↔ Long T o area n)
+  by_area : f ≡ 0 → NoRow T → (n : ℕ) → ((r ≡ Err n) ↔ (First T n ⊎ Short T o area n)) × ((r ≡ Ok n) ↔ Long T o area n)
   by_area z none n =
       by_test (ltb (length area) (length o))
       (λ t.
@@ -105,24 +105,24 @@ module _ (T : Table) (f : ℕ) (o area : List ℕ) (r : Written) (j : Judged T f
       let l = ltb-false _ _ t in
       let is = answer_long z l in (
         (λ q. refused_not n (length o) (sym q ∙ is), there),
-        (λ q. (none, l, sym (wrote_same (length o) n (sym is ∙ q))), λ q. is ∙ ap Wrote (sym q.2)),
+        (λ q. (none, l, sym (wrote_same (length o) n (sym is ∙ q))), λ q. is ∙ ap Ok (sym q.2)),
       ))
     where
-      there : First T n ⊎ Short T o area n → r ≡ Refused n
+      there : First T n ⊎ Short T o area n → r ≡ Err n
       there (inl h) = absurd (first_none T n h none)
-      there (inr h) = answer_short z h.2 ∙ ap Refused (sym h.1)
+      there (inr h) = answer_short z h.2 ∙ ap Err (sym h.1)
 
-  pub answers_by : (n : ℕ) → ((r ≡ Refused n) ↔ (First T n ⊎ Short T o area n)) × ((r ≡ Wrote n) ↔ Long T o area n)
+  pub answers_by : (n : ℕ) → ((r ≡ Err n) ↔ (First T n ⊎ Short T o area n)) × ((r ≡ Ok n) ↔ Long T o area n)
   answers_by = by j
     where
-      by : Judged T f → (n : ℕ) → ((r ≡ Refused n) ↔ (First T n ⊎ Short T o area n)) × ((r ≡ Wrote n) ↔ Long T o area n)
+      by : Judged T f → (n : ℕ) → ((r ≡ Err n) ↔ (First T n ⊎ Short T o area n)) × ((r ≡ Ok n) ↔ Long T o area n)
       by (fine z none) = by_area z none
       by (faulty s g) = by_fault s g
 
 -- ---- and what it leaves in the area
 module _ (f : ℕ) (o area : List ℕ) (r : Written) (later : List ℕ) (l : Laid f o area r later) where
   -- a refusal leaves it as it was
-  pub kept_by : (x : ℕ) → r ≡ Refused x → later ≡ area
+  pub kept_by : (x : ℕ) → r ≡ Err x → later ≡ area
   unfolding answer_of area_of
   kept_by x q =
       by_test (eqb f 0)
@@ -132,7 +132,7 @@ module _ (f : ℕ) (o area : List ℕ) (r : Written) (later : List ℕ) (l : Lai
       (λ b. refused_not x (length o) (sym q ∙ l.answer ∙ rw (a, b))))
       (λ a. l.after ∙ rw a)
 
-  room_by : (n : ℕ) → r ≡ Wrote n → length o ≤ length area
+  room_by : (n : ℕ) → r ≡ Ok n → length o ≤ length area
   unfolding answer_of
   room_by n q =
       by_test (ltb (length area) (length o))
@@ -143,7 +143,7 @@ module _ (f : ℕ) (o area : List ℕ) (r : Written) (later : List ℕ) (l : Lai
       (λ b. ltb-false (length area) (length o) b)
 
   -- and nothing past what was written changes
-  pub past_by : (n : ℕ) → r ≡ Wrote n → (length later ≡ length area) × (drop n later ≡ drop n area)
+  pub past_by : (n : ℕ) → r ≡ Ok n → (length later ≡ length area) × (drop n later ≡ drop n area)
   past_by n q =
       let w = laid_wrote f n o area later (subst (λ (x : Written). Laid f o area x later) q l) in
       let room = room_by n q in

@@ -8,6 +8,7 @@ use mathlib.Core.Option.{none, some}
 use lib.Dec.{eqb}
 use lib.ListN.{length, drop}
 use borrow.Author.Tests.{eqb-true, eqb-false}
+use Rattle.std.specs.Prelude.{Ok, Err}
 use Rattle.octets.specs.Choice.{by_test, impossible, given_true}
 use Rattle.octets.specs.Reading.{oct}
 use Rattle.npdu.specs.Address.{source_of, destination_of, part_address, absent}
@@ -16,8 +17,7 @@ use Rattle.npdu.specs.declared.Npdu.{Npdu}
 use Rattle.apdu.specs.Reading.{read_apdu}
 use Rattle.apdu.specs.Fields.{params_at}
 use Rattle.apdu.specs.declared.Edition.{Edition}
-use Rattle.apdu.specs.declared.Answer as Apdu
-use Rattle.apdu.specs.declared.Answer.TheVariants.{Good, Refused}
+use Rattle.apdu.specs.Reading as Apdu
 use Rattle.apdu.specs.declared.Pdu.{Pdu}
 use Rattle.apdu.specs.declared.Pdu.TheVariants.{Request, Unconfirmed, SimpleAck, ComplexAck, SegmentAck, Error, Reject, Abort}
 use Rattle.items.specs.Reading.{Out as ItemsRead, items_of}
@@ -88,8 +88,8 @@ module _ (edition : Edition) (h d : List ℕ) where
   by_pdu (Abort p) c q = not_seg (Abort p) c refl q
 
   by_read : {a : List ℕ} {g : Segment Key} (y : Apdu.Answer) → read_apdu edition a ≡ y → Behind h d false a → segment_at edition (good h d) ≡ some g → CarriesSegment edition h d a g
-  by_read (Refused n) e k q = none_here (is_bad edition h d k e) refl q
-  by_read {a} (Good p) e k q = by_pdu {t = drop (params_at p) a} p (record { behind = k; read = (e, refl) }) q
+  by_read (Err n) e k q = none_here (is_bad edition h d k e) refl q
+  by_read {a} (Ok p) e k q = by_pdu {t = drop (params_at p) a} p (record { behind = k; read = (e, refl) }) q
 
   by_header : {g : Segment Key} → FiveOrSix h → segment_at edition (good h d) ≡ some g → CarriesSegment edition h d (drop (read_npdu d).next d) g
   by_header t q =

@@ -20,7 +20,7 @@ use Rattle.messages.proofs.Tests.{never}
 use Rattle.rebuild.specs.View.{keys, view, segment_of}
 use Rattle.rebuild.specs.Calls as Rebuild
 use Rattle.rebuild.specs.declared.Key.{Key}
-use Rattle.rebuild.specs.declared.Step.TheVariants.{Refused}
+use Rattle.rebuild.specs.Calls.Step.{Refused}
 use Rattle.rebuild.proofs.Seen.{view_one}
 use Rattle.rebuild.proofs.Giving.{gives_by, taking_60, taking_on}
 use Rattle.demands.specs.Words.{Between, in_front, waits, SegmentLaid, SegmentChanges}

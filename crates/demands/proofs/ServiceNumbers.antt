@@ -6,6 +6,7 @@ use mathlib.Core.Logic.{◌⊎◌, inl, inr}
 use mathlib.Core.List.{List, []}
 use mathlib.Core.Bool.{false}
 use lib.ListN.{length}
+use Rattle.std.specs.Prelude.{Ok, Err}
 use Rattle.octets.specs.Choice.{pick_case}
 use Rattle.items.specs.Records.{Rec}
 use Rattle.items.specs.Reading.{Out, items_of}
@@ -14,8 +15,7 @@ use Rattle.services.specs.Reading.{layout_for, after_tags, read_service}
 use Rattle.services.specs.Layout.{Message}
 use Rattle.services.specs.Layout.Message.{read_property, read_property_ack, write_property, who_is, i_am, error_of}
 use Rattle.services.specs.Shows.{For}
-use Rattle.services.specs.declared.Answer.{Answer}
-use Rattle.services.specs.declared.Answer.TheVariants.{Good, Refused}
+use Rattle.services.specs.Parts.{Answer}
 use Rattle.services.specs.declared.Service.{Service}
 use Rattle.services.specs.declared.Service.TheVariants as Of
 use Rattle.services.proofs.Refusals.{Low, Laid, nowhere, layout_numbers}
@@ -26,20 +26,20 @@ use Rattle.demands.specs.Demands.{ServiceNumbers, ServiceWriterNumbers}
 use Rattle.demands.proofs.Numbers.{bad_row}
 
 -- ---- tags first
-tags_first : (f : List Rec → Answer) {o : Out} {n : ℕ} → o ≡ bad n → after_tags f o ≡ Refused n
+tags_first : (f : List Rec → Answer) {o : Out} {n : ℕ} → o ≡ bad n → after_tags f o ≡ Err n
 tags_first f e = rw e
 
 tags_good : (f : List Rec → Answer) {o : Out} {rs : List Rec} {end : ℕ} → o ≡ good rs end → after_tags f o ≡ f rs
 tags_good f e = rw e
 
 abbrev Numbered : ℕ → ℕ → Answer → Type 0
-Numbered kind choice a = ((n : ℕ) → a ≡ Refused n → Between 40 43 n) × ((a ≡ Refused 43 → (m : Message) → For kind choice m → ⊥) × (((m : Message) → For kind choice m → ⊥) → a ≡ Refused 43))
+Numbered kind choice a = ((n : ℕ) → a ≡ Err n → Between 40 43 n) × ((a ≡ Err 43 → (m : Message) → For kind choice m → ⊥) × (((m : Message) → For kind choice m → ⊥) → a ≡ Err 43))
 
 numbered : (kind choice : ℕ) (a : Answer) → Laid kind choice a → Numbered kind choice a
 numbered kind choice a (inl x) =
     (λ n e. (let z = subst Low e x.1 in (z.0, omega (arith, z.1))), (λ e. (let z = subst Low e x.1 in absurd (omega (arith, z.1))), λ none. absurd (none x.0.0 x.0.1)))
 numbered kind choice a (inr x) =
-    (λ n e. (let q : Refused n ≡ Refused 43 = sym e ∙ x.1 in let z : n ≡ 43 = cc in (omega arith, omega arith)), (λ _. x.0, λ _. x.1))
+    (λ n e. (let q : Err n ≡ Err 43 = sym e ∙ x.1 in let z : n ≡ 43 = cc in (omega arith, omega arith)), (λ _. x.0, λ _. x.1))
 
 pub service_numbers : ServiceNumbers
 unfolding read_service
@@ -63,16 +63,16 @@ Thirty n = (n ≡ 0) ⊎ Between 30 42 n
 module _ (kind choice : ℕ) (o : List ℕ) (m : (m : Message) × For kind choice m) where
   read_numbers : (t : Out) → items_of o ≡ t → (a : Answer) → read_service kind choice o ≡ a → Thirty (refusal_of a)
   unfolding refusal_of
-  read_numbers t e (Good v) q = inl refl
-  read_numbers (bad n) e (Refused x) q =
-      let w : Refused x ≡ Refused n = sym q ∙ (service_numbers kind choice o).0 n e in
+  read_numbers t e (Ok v) q = inl refl
+  read_numbers (bad n) e (Err x) q =
+      let w : Err x ≡ Err n = sym q ∙ (service_numbers kind choice o).0 n e in
       let z : x ≡ n = cc in
       let l = bad_row o n e in
       inr (omega (arith, l.0), omega (arith, l.1))
-  read_numbers (good rs end) e (Refused x) q =
+  read_numbers (good rs end) e (Err x) q =
       let h = (service_numbers kind choice o).1 (length rs) (rs, end, e, refl) in
       let l = h.0 x q in
-      let ne : x ≡ 43 → ⊥ = λ z. h.1.0 (q ∙ ap Refused z) m.0 m.1 in
+      let ne : x ≡ 43 → ⊥ = λ z. h.1.0 (q ∙ ap Err z) m.0 m.1 in
       inr (omega (arith, l.0), omega (arith, l.1, ne))
 
 pub service_writer_numbers : ServiceWriterNumbers

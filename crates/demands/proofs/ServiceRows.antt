@@ -3,6 +3,7 @@ use Prim.Native.Nat.{ℕ}
 use mathlib.Core.Path.{◌≡◌, refl, sym, ap, ◌∙◌}
 use mathlib.Core.Logic.{inl, inr}
 use mathlib.Core.List.{List}
+use Rattle.std.specs.Prelude.{Ok, Err}
 use Rattle.octets.specs.Reading.{Octets}
 use Rattle.octets.specs.Numbers.{value_at, long_form}
 use Rattle.tags.specs.Types.{least, most}
@@ -13,8 +14,7 @@ use Rattle.items.specs.Grammar.{encode_all, Grammar, Reads}
 use Rattle.items.proofs.Exact.{exact}
 use Rattle.services.specs.Parts.{present, wanted, number_rule, object_rule, optional_number, after_group, group, last}
 use Rattle.services.specs.Reading.{target_parts, read_property, read_property_ack, write_property, who_is, device_rule, i_am, error_of, layout_for, read_service}
-use Rattle.services.specs.declared.Answer.{Answer}
-use Rattle.services.specs.declared.Answer.TheVariants.{Good, Refused}
+use Rattle.services.specs.Parts.{Answer}
 use Rattle.services.proofs.Rows.{rows_exact, good_message, message_good}
 use Rattle.demands.specs.ServiceRows.{ServiceRows, ServiceVerdict, ServicesOneRow, ServicesRefused}
 
@@ -24,8 +24,8 @@ service_rows kind choice o os ts r x = rows_exact kind choice o os ts r x
 -- ---- exactly one
 -- a refusal's number, 0 of what is good
 abbrev number_of : Answer → ℕ
-number_of (Good v) = 0
-number_of (Refused x) = x
+number_of (Ok v) = 0
+number_of (Err x) = x
 
 module _ (kind choice : ℕ) (ts : List Thing) (g : Grammar ts) (os : Octets (encode_all ts)) where
   abbrev read : Answer
@@ -39,8 +39,8 @@ module _ (kind choice : ℕ) (ts : List Thing) (g : Grammar ts) (os : Octets (en
   verdict_is x (inr w) = sym (ap number_of ((rows_exact kind choice (encode_all ts) os ts items x).1 w))
 
   verdict : (a : Answer) → read ≡ a → ServiceVerdict kind choice ts (number_of a)
-  verdict (Good v) e = inl (refl, good_message kind choice (encode_all ts) os ts items v e)
-  verdict (Refused x) e = inr ((rows_exact kind choice (encode_all ts) os ts items x).0 e)
+  verdict (Ok v) e = inl (refl, good_message kind choice (encode_all ts) os ts items v e)
+  verdict (Err x) e = inr ((rows_exact kind choice (encode_all ts) os ts items x).0 e)
 
 pub services_one_row : ServicesOneRow
 services_one_row kind choice ts g os =

@@ -1,4 +1,5 @@
 -- What a service writer wrote reads back: its output is accepted, and where the value is whole items by itself, as the message that was written.
+use Rattle.std.specs.Prelude.{Err, Ok}
 use Prim.Native.Nat.{ℕ, ◌+◌, ◌*◌, ◌≤◌, ◌<◌}
 use native.Mathlib.Omega.{arith}
 use mathlib.Core.Path.{◌≡◌, refl, sym, ap, subst, ◌∙◌}
@@ -20,8 +21,8 @@ use Rattle.tags.specs.Reading.{head_at, number_at, length_at, two_at, four_at, f
 use Rattle.tags.specs.Layout as tag
 use Rattle.tags.specs.Layout.{Thing, Valid, tag_of, short_unsigned, good_contents}
 use Rattle.tags.specs.Layout.Thing.{application, boolean, context, opening, closing}
-use Rattle.tags.specs.declared.Tag.{Tag}
-use Rattle.tags.specs.declared.Tag.TheVariants as Head
+use Rattle.tags.specs.Head.{Tag}
+use Rattle.tags.specs.Head.{Tag as Head}
 use Rattle.tags.proofs.Exact.{encode_some, head_complete}
 use Rattle.tags.proofs.Integers.{shortest_unsigned}
 use Rattle.items.specs.Records.{Rec, rec, things_of}
@@ -34,8 +35,7 @@ use Rattle.services.specs.Reading as reading
 use Rattle.services.specs.Layout.{Message, shortest, optional, pointed, valued, things_of_message, Pointing, Ranges, WholeValue}
 use Rattle.services.specs.Layout.Message.{read_property, read_property_ack, write_property, who_is, i_am, error_of}
 use Rattle.services.specs.Shows.{For, pointed_of, message_of, Shows, ValidFor}
-use Rattle.services.specs.declared.Answer.{Answer}
-use Rattle.services.specs.declared.Answer.TheVariants as Answered
+use Rattle.services.specs.Parts.{Answer}
 use Rattle.services.specs.declared.Service.{Service}
 use Rattle.services.specs.declared.Service.TheVariants.{ReadProperty, ReadPropertyAck, WriteProperty, WhoIs, IAm, Error}
 use Rattle.services.specs.declared.Target.{Target}
@@ -292,7 +292,7 @@ shown_things (Error f) ts = refl
 
 -- a service that is not too wide, whose octets are accepted, is a message that keeps its rules
 shown_valid : (v : Service) (ts : List Thing) → KeptService v → Grammar ts → too_wide v ≡ false → Octets (octets_of v (encode_all ts)) → (w : Service)
-    → read_service (kind_of v) (choice_of v) (octets_of v (encode_all ts)) ≡ Answered.Good w → ValidFor (kind_of v) (choice_of v) (message_of (shown_service v) ts)
+    → read_service (kind_of v) (choice_of v) (octets_of v (encode_all ts)) ≡ Ok w → ValidFor (kind_of v) (choice_of v) (message_of (shown_service v) ts)
 shown_valid v ts k g e os w d =
     let a = accepted (kind_of v) (choice_of v) (octets_of v (encode_all ts)) os w d in
     let ok = a.valid.valid in
@@ -309,19 +309,19 @@ shown_valid v ts k g e os w d =
 
 whole_shows : (v : Service) (value : List ℕ) (ts : List Thing) → KeptService v → Grammar ts → value ≡ encode_all ts
     → too_wide v ≡ false → Octets (octets_of v value) → (w : Service)
-    → read_service (kind_of v) (choice_of v) (octets_of v value) ≡ Answered.Good w → Shows (kind_of v) (choice_of v) (octets_of v value) (message_of (shown_service v) ts)
+    → read_service (kind_of v) (choice_of v) (octets_of v value) ≡ Ok w → Shows (kind_of v) (choice_of v) (octets_of v value) (message_of (shown_service v) ts)
 whole_shows v value ts k g e n os w d = rw e (shows_shown v ts (shown_valid v ts k g n (rw e at os) w (rw e at d)))
 
 -- ---- no fault: not too wide, and the output is accepted
-good_of_lem : (kind choice : ℕ) (o : List ℕ) (a : Answer) → read_service kind choice o ≡ a → refusal_of a ≡ 0 → (w : Service) × (read_service kind choice o ≡ Answered.Good w)
+good_of_lem : (kind choice : ℕ) (o : List ℕ) (a : Answer) → read_service kind choice o ≡ a → refusal_of a ≡ 0 → (w : Service) × (read_service kind choice o ≡ Ok w)
 unfolding refusal_of
-good_of_lem kind choice o (Answered.Good w) e z = (w, e)
-good_of_lem kind choice o (Answered.Refused x) e z =
+good_of_lem kind choice o (Ok w) e z = (w, e)
+good_of_lem kind choice o (Err x) e z =
     let s : 0 < x = subst (AnswerHas (λ n. 0 < n)) e (read_has (λ n. 0 < n) (λ n low high. omega arith) kind choice o) in
     absurd (omega arith)
 
 no_fault : (v : Service) (value : List ℕ) → fault_of v value ≡ 0
-    → (too_wide v ≡ false) × ((w : Service) × (read_service (kind_of v) (choice_of v) (octets_of v value) ≡ Answered.Good w))
+    → (too_wide v ≡ false) × ((w : Service) × (read_service (kind_of v) (choice_of v) (octets_of v value) ≡ Ok w))
 unfolding fault_of
 no_fault v value e =
     let p = pick_not (too_wide v) 41 (read_fault (kind_of v) (choice_of v) (octets_of v value)) 0 (λ z. omega arith) e in

@@ -14,8 +14,8 @@ use Rattle.tags.specs.Layout.{Thing, encode, tag_of, Good, Stands}
 use Rattle.tags.specs.Layout.Thing.{application, boolean, context, opening, closing}
 use Rattle.tags.specs.Rows.{Early, Given}
 use Rattle.tags.specs.Rows.Given.{thirty, thirty_one, thirty_two, thirty_three, thirty_four}
-use Rattle.tags.specs.declared.Tag.{Tag}
-use Rattle.tags.specs.declared.Tag.TheVariants.{Item, Opening, Closing, Refused}
+use Rattle.tags.specs.Head.{Tag}
+use Rattle.tags.specs.Head.Tag.{Item, Opening, Closing, Refused}
 use Rattle.tags.proofs.Bounds.{TagIn, head_in}
 use Rattle.tags.proofs.Exact.{encode_length, head_complete, head_sound}
 use Rattle.tags.proofs.Refusals.{TagHas}

@@ -6,10 +6,10 @@ use mathlib.Core.Bool.{Bool, true, false}
 use mathlib.Core.List.{List, ◌++◌}
 use lib.ListN.{length, take, drop, length-append, length-drop}
 use lib.Seq.{take_at}
+use Rattle.std.specs.Prelude.{Ok}
 use Rattle.octets.specs.Choice.{pick, by_test}
 use Rattle.octets.specs.Laid.{Laid, laid_as}
-use Rattle.octets.specs.declared.Written.{Written}
-use Rattle.octets.specs.declared.Written.TheVariants.{Wrote}
+use Rattle.octets.specs.Laid.{Written}
 use Rattle.sums.proofs.Good.{header_exact, data_exact}
 use Rattle.trunk.specs.Reading.Out.{good}
 use Rattle.trunk.proofs.Laws.{outcomes_from}
@@ -49,7 +49,7 @@ pub frames_exact : FramesExact
 frames_exact r so es bs q h d = outcomes_from r so es bs q (good h d)
 
 -- a writer without a fault lays its octets, by whatever name
-laid_back : (f : ℕ) (o p area later : List ℕ) (r : Written) → f ≡ 0 → o ≡ p → length p ≤ length area → Laid f o area r later → (r ≡ Wrote (length p)) × (later ≡ p ++ drop (length p) area)
+laid_back : (f : ℕ) (o p area later : List ℕ) (r : Written) → f ≡ 0 → o ≡ p → length p ≤ length area → Laid f o area r later → (r ≡ Ok (length p)) × (later ≡ p ++ drop (length p) area)
 laid_back f o p area later r e d h l = (writers_refuse f p area later r (laid_as refl d l)).fine e h
 
 -- ---- the network header

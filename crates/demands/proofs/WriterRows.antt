@@ -6,10 +6,10 @@ use mathlib.Core.Bool.{Bool, true, false}
 use mathlib.Core.List.{List}
 use lib.Dec.{ltb}
 use borrow.Author.Tests.{ltb-true, lt-ltb}
+use Rattle.std.specs.Prelude.{Ok, Err}
 use Rattle.octets.specs.Choice.{by_test, impossible, not_so}
 use Rattle.services.specs.Reading.{layout_for, read_service}
-use Rattle.services.specs.declared.Answer.{Answer}
-use Rattle.services.specs.declared.Answer.TheVariants.{Good, Refused}
+use Rattle.services.specs.Parts.{Answer}
 use Rattle.services.specs.declared.Service.{Service}
 use Rattle.services.specs.declared.Service.TheVariants.{ReadProperty, ReadPropertyAck, WriteProperty, WhoIs, IAm, Error}
 use Rattle.services.specs.declared.Target.{Target}
@@ -51,8 +51,8 @@ too_wide_lem (Error f) = none_wide
 -- ---- the number that reading gives
 gives : (a : Answer) (x : ℕ) → (refusal_of a ≡ x) ↔ Gives a x
 unfolding refusal_of
-gives (Good v) x = (λ e. inr (sym e, (v, refl)), λ q. ⊎_elim (λ e. impossible (cc)) (λ z. sym z.0) q)
-gives (Refused n) x = (λ e. inl (ap Refused e), λ q. ⊎_elim (λ e. cc) (λ z. (let w = z.1.1 in impossible (cc))) q)
+gives (Ok v) x = (λ e. inr (sym e, (v, refl)), λ q. ⊎_elim (λ e. impossible (cc)) (λ z. sym z.0) q)
+gives (Err n) x = (λ e. inl (ap Err e), λ q. ⊎_elim (λ e. cc) (λ z. (let w = z.1.1 in impossible (cc))) q)
 
 -- Error's layout is one for 12 and 15
 errors_alike : (o : List ℕ) → read_service 5 12 o ≡ read_service 5 15 o

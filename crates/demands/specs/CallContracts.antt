@@ -1,58 +1,60 @@
 -- What each call's contract says, as the check holds the call to it: cited, not copied. `Pre` is what a call asks of its caller, `Post` what it promises
 -- of its answer and of everything lent. So a weaker promise, or a `requires`, in any crate below is refused here.
-use Rattle.std.specs.Prelude.{ℕ, ◌≡◌, List, eqb}
+use Rattle.std.specs.Prelude.{ℕ, ◌≡◌, List, eqb, Result, ⊤}
 use Rattle.std.specs.Borrow.{Bor, MutBor}
 use base.Fml.{Lft}
 use Rattle.octets.specs.Laid.{Laid}
-use Rattle.octets.specs.declared.Written.{Written}
+use Rattle.octets.specs.Refusal.{numbered, fault_of}
+use Rattle.octets.specs.declared.refusal.Refusal.{Refusal}
 use Rattle.sums.specs.Sums.{header_step, header_run, header_check, data_step, data_run, data_sent}
 use Rattle.frames.specs.Step.{fresh_of, feed_of, silence_of}
 use Rattle.frames.specs.declared.Receiver.{Receiver}
-use Rattle.frames.specs.declared.Fed.{Fed as ReceiverFed}
-use Rattle.frames.specs.declared.Fell.{Fell as ReceiverFell}
+use Rattle.frames.specs.declared.Fed as Piece
+use Rattle.frames.specs.declared.Fell as Silence
+use Rattle.frames.specs.Answers.{fed_by, fell_by}
 use Rattle.frames.specs.Layout.{frame_octets}
 use Rattle.frame_writer.specs.Fault as FrameFault
-use Rattle.npdu.specs.Reading.{read_npdu}
+use Rattle.npdu.specs.Reading.{read_npdu, reading_of}
 use Rattle.npdu.specs.Layout as Network
 use Rattle.npdu.specs.Fault as NetworkFault
 use Rattle.npdu.specs.declared.Npdu.{Npdu}
-use Rattle.npdu.specs.declared.Reading.{Reading}
+use Rattle.npdu.specs.declared.Header.{Header as NetworkHeader}
 use Rattle.apdu.specs.Reading.{read_apdu}
 use Rattle.apdu.specs.Layout as Header
 use Rattle.apdu.specs.Fault as HeaderFault
 use Rattle.apdu.specs.declared.Edition.{Edition}
 use Rattle.apdu.specs.declared.Pdu.{Pdu}
-use Rattle.apdu.specs.declared.Answer as Apdu
 use Rattle.cutter.specs.Calls as Cutter
 use Rattle.cutter.specs.Fault.{front_fault}
 use Rattle.cutter.specs.declared.Message.{Message}
 use Rattle.cutter.specs.declared.Way.{Way}
-use Rattle.cutter.specs.declared.Parted.{Parted}
+use Rattle.cutter.specs.Calls.{parted_of}
+use Rattle.cutter.specs.declared.Extent.{Extent}
 use Rattle.items.specs.Grammar as Items
 use Rattle.items.specs.Reading.{item_at, one_at, end_of}
 use Rattle.items.specs.Records.{things_of}
 use Rattle.items.specs.Listing.{Listed}
-use Rattle.items.specs.declared.Tally.{Tally}
-use Rattle.items.specs.declared.One.{One as OneItem}
+use Rattle.items.specs.Answers.{tally_of, one_of}
+use Rattle.items.specs.declared.Unlisted.{Unlisted}
 use Rattle.item_judge.specs.Judge.{write_fault, records_in}
 use Rattle.services.specs.Reading.{read_service}
-use Rattle.services.specs.declared.Answer as ServiceAnswer
 use Rattle.services.specs.declared.Service.{Service}
 use Rattle.service_writer.specs.Layout as ServiceWriter
 use Rattle.service_writer.specs.Fault as ServiceFault
 use Rattle.reader.specs.Reading.{step_of}
+use Rattle.reader.specs.Answers.{answer_of}
 use Rattle.reader.specs.declared.Step.{Step as ReaderStep}
 use Rattle.rebuild.specs.Calls as Rebuild
 use Rattle.rebuild.specs.declared.Slots.{Slots}
 use Rattle.rebuild.specs.declared.Segment.{Segment as Head}
-use Rattle.rebuild.specs.declared.Taken.{Taken}
-use Rattle.rebuild.specs.declared.Forgot.{Forgot as Freed}
+use Rattle.rebuild.specs.declared.Taken as Rebuilt
 use Rattle.collector.specs.Calls.{fresh_collector, Feeds, Stills, Forgets}
 use Rattle.collector.specs.declared.Collector.{Collector}
-use Rattle.collector.specs.declared.Fed.{Fed}
-use Rattle.collector.specs.declared.Fell.{Fell}
-use Rattle.collector.specs.declared.Forgot.{Forgot}
+use Rattle.collector.specs.declared.Fed as Eaten
+use Rattle.collector.specs.declared.Fell as Stilled
+use Rattle.collector.specs.Answers.{fed_of, fell_of, forgot_of}
 use Rattle.playback.specs.Calls.{Plays}
+use Rattle.playback.specs.Answers.{played_of}
 use Rattle.playback.specs.declared.Played.{Played}
 use Rattle.records.specs.Network.{npdu_size, npdu_record, npdu_at}
 use Rattle.records.specs.Application.{apdu_size, apdu_at}
@@ -80,9 +82,9 @@ use Rattle.npdu.proofs.read.Reads as npdu_read_call
 use Rattle.npdu.proofs.write.Reads as npdu_write_call
 use Rattle.apdu.proofs.read.Reads as apdu_read_call
 use Rattle.apdu_writer.proofs.write.Reads as apdu_write_call
-use Rattle.apdu_writer.proofs.fault.Reads as apdu_fault_call
+use Rattle.apdu_writer.proofs.judge.Reads as apdu_judge_call
 use Rattle.cutter.proofs.cut.Reads as cut_call
-use Rattle.cutter.proofs.front_fault.Reads as cut_front_call
+use Rattle.cutter.proofs.judge_front.Reads as cut_front_call
 use Rattle.items.proofs.list.Reads as items_list_call
 use Rattle.items.proofs.item_at.Reads as items_item_at_call
 use Rattle.items.proofs.whole_at.Reads as items_whole_at_call
@@ -150,85 +152,85 @@ pub record Contracts : Type 0 where
   pub receiver_fresh : (r : Receiver)
       → Contract (receiver_fresh_call.Pre tt tt) (receiver_fresh_call.Post tt tt r tt)
       (r ≡ fresh_of)
-  pub receiver_feed : (κ1 : Lft) (m : Receiver) (piece : Bor (List ℕ)) (r : ReceiverFed)
+  pub receiver_feed : (κ1 : Lft) (m : Receiver) (piece : Bor (List ℕ)) (r : Result Piece.Fed Refusal)
       → Contract (receiver_feed_call.Pre (κ1, tt) (m, (piece, tt))) (receiver_feed_call.Post (κ1, tt) (m, (piece, tt)) r (m, (piece, tt)))
-      (r ≡ feed_of m piece.now)
-  pub receiver_silence : (m : Receiver) (r : ReceiverFell)
+      (fed_by m r ≡ feed_of m piece.now)
+  pub receiver_silence : (m : Receiver) (r : Result Silence.Fell Refusal)
       → Contract (receiver_silence_call.Pre tt (m, tt)) (receiver_silence_call.Post tt (m, tt) r (m, tt))
-      (r ≡ silence_of m)
-  pub frames_write : (κ1 κ2 : Lft) (kind to from : ℕ) (d : Bor (List ℕ)) (out out' : MutBor (List ℕ)) (r : Written)
+      (fell_by m r ≡ silence_of m)
+  pub frames_write : (κ1 κ2 : Lft) (kind to from : ℕ) (d : Bor (List ℕ)) (out out' : MutBor (List ℕ)) (r : Result ℕ Refusal)
       → Contract (frames_write_call.Pre (κ1, (κ2, tt)) (kind, (to, (from, (d, (out, tt)))))) (frames_write_call.Post (κ1, (κ2, tt)) (kind, (to, (from, (d, (out, tt))))) r (kind, (to, (from, (d, (out', tt))))))
-      (Laid (FrameFault.fault_of d.now) (frame_octets kind to from d.now) out.now r out'.now)
-  pub npdu_read : (κ1 : Lft) (s : Bor (List ℕ)) (r : Reading)
+      (Laid (FrameFault.fault_of d.now) (frame_octets kind to from d.now) out.now (numbered r) out'.now)
+  pub npdu_read : (κ1 : Lft) (s : Bor (List ℕ)) (r : Result NetworkHeader Refusal)
       → Contract (npdu_read_call.Pre (κ1, tt) (s, tt)) (npdu_read_call.Post (κ1, tt) (s, tt) r (s, tt))
-      (r ≡ read_npdu s.now)
-  pub npdu_write : (κ1 : Lft) (h : Npdu) (out out' : MutBor (List ℕ)) (r : Written)
+      (reading_of r ≡ read_npdu s.now)
+  pub npdu_write : (κ1 : Lft) (h : Npdu) (out out' : MutBor (List ℕ)) (r : Result ℕ Refusal)
       → Contract (npdu_write_call.Pre (κ1, tt) (h, (out, tt))) (npdu_write_call.Post (κ1, tt) (h, (out, tt)) r (h, (out', tt)))
-      (Laid (NetworkFault.fault_of h) (Network.encode h) out.now r out'.now)
-  pub apdu_read : (κ1 : Lft) (e : Edition) (s : Bor (List ℕ)) (r : Apdu.Answer)
+      (Laid (NetworkFault.fault_of h) (Network.encode h) out.now (numbered r) out'.now)
+  pub apdu_read : (κ1 : Lft) (e : Edition) (s : Bor (List ℕ)) (r : Result Pdu Refusal)
       → Contract (apdu_read_call.Pre (κ1, tt) (e, (s, tt))) (apdu_read_call.Post (κ1, tt) (e, (s, tt)) r (e, (s, tt)))
-      (r ≡ read_apdu e s.now)
-  pub apdu_write : (κ1 : Lft) (e : Edition) (p : Pdu) (out out' : MutBor (List ℕ)) (r : Written)
+      (numbered r ≡ read_apdu e s.now)
+  pub apdu_write : (κ1 : Lft) (e : Edition) (p : Pdu) (out out' : MutBor (List ℕ)) (r : Result ℕ Refusal)
       → Contract (apdu_write_call.Pre (κ1, tt) (e, (p, (out, tt)))) (apdu_write_call.Post (κ1, tt) (e, (p, (out, tt))) r (e, (p, (out', tt))))
-      (Laid (HeaderFault.fault_of e p) (Header.header p) out.now r out'.now)
-  pub apdu_fault_lem : (e : Edition) (p : Pdu) (r : ℕ)
-      → Contract (apdu_fault_call.Pre tt (e, (p, tt))) (apdu_fault_call.Post tt (e, (p, tt)) r (e, (p, tt)))
-      (r ≡ HeaderFault.fault_of e p)
-  pub cut : (κ1 κ2 : Lft) (e : Edition) (m : Message) (w : Way) (params : Bor (List ℕ)) (out out' : MutBor (List ℕ)) (r : Parted)
+      (Laid (HeaderFault.fault_of e p) (Header.header p) out.now (numbered r) out'.now)
+  pub apdu_fault_lem : (e : Edition) (p : Pdu) (r : Result ⊤ Refusal)
+      → Contract (apdu_judge_call.Pre tt (e, (p, tt))) (apdu_judge_call.Post tt (e, (p, tt)) r (e, (p, tt)))
+      (fault_of r ≡ HeaderFault.fault_of e p)
+  pub cut : (κ1 κ2 : Lft) (e : Edition) (m : Message) (w : Way) (params : Bor (List ℕ)) (out out' : MutBor (List ℕ)) (r : Result Extent Refusal)
       → Contract (cut_call.Pre (κ1, (κ2, tt)) (e, (m, (w, (params, (out, tt)))))) (cut_call.Post (κ1, (κ2, tt)) (e, (m, (w, (params, (out, tt))))) r (e, (m, (w, (params, (out', tt))))))
-      (Cutter.Cuts e m w params.now out.now r out'.now)
-  pub cut_front : (w : Way) (n : ℕ) (r : ℕ)
+      (Cutter.Cuts e m w params.now out.now (parted_of r) out'.now)
+  pub cut_front : (w : Way) (n : ℕ) (r : Result ⊤ Refusal)
       → Contract (cut_front_call.Pre tt (w, (n, tt))) (cut_front_call.Post tt (w, (n, tt)) r (w, (n, tt)))
-      (r ≡ front_fault w n)
-  pub items_list : (κ1 κ2 : Lft) (s : Bor (List ℕ)) (out out' : MutBor (List ℕ)) (r : Tally)
+      (fault_of r ≡ front_fault w n)
+  pub items_list : (κ1 κ2 : Lft) (s : Bor (List ℕ)) (out out' : MutBor (List ℕ)) (r : Result ℕ Unlisted)
       → Contract (items_list_call.Pre (κ1, (κ2, tt)) (s, (out, tt))) (items_list_call.Post (κ1, (κ2, tt)) (s, (out, tt)) r (s, (out', tt)))
-      (Listed s.now out.now r out'.now)
-  pub items_item_at : (κ1 : Lft) (s : Bor (List ℕ)) (at : ℕ) (r : OneItem)
+      (Listed s.now out.now (tally_of r) out'.now)
+  pub items_item_at : (κ1 : Lft) (s : Bor (List ℕ)) (at : ℕ) (r : Result ℕ Refusal)
       → Contract (items_item_at_call.Pre (κ1, tt) (s, (at, tt))) (items_item_at_call.Post (κ1, tt) (s, (at, tt)) r (s, (at, tt)))
-      (r ≡ end_of (one_at s.now at))
-  pub items_whole_at : (κ1 : Lft) (s : Bor (List ℕ)) (at : ℕ) (r : OneItem)
+      (one_of r ≡ end_of (one_at s.now at))
+  pub items_whole_at : (κ1 : Lft) (s : Bor (List ℕ)) (at : ℕ) (r : Result ℕ Refusal)
       → Contract (items_whole_at_call.Pre (κ1, tt) (s, (at, tt))) (items_whole_at_call.Post (κ1, tt) (s, (at, tt)) r (s, (at, tt)))
-      (r ≡ end_of (item_at s.now at))
-  pub items_write : (κ1 κ2 κ3 : Lft) (records source : Bor (List ℕ)) (out out' : MutBor (List ℕ)) (r : Written)
+      (one_of r ≡ end_of (item_at s.now at))
+  pub items_write : (κ1 κ2 κ3 : Lft) (records source : Bor (List ℕ)) (out out' : MutBor (List ℕ)) (r : Result ℕ Refusal)
       → Contract (items_write_call.Pre (κ1, (κ2, (κ3, tt))) (records, (source, (out, tt)))) (items_write_call.Post (κ1, (κ2, (κ3, tt))) (records, (source, (out, tt))) r (records, (source, (out', tt))))
-      (Laid (write_fault records.now source.now) (Items.encode_all (things_of source.now (records_in records.now))) out.now r out'.now)
-  pub services_read : (κ1 : Lft) (kind choice : ℕ) (s : Bor (List ℕ)) (r : ServiceAnswer.Answer)
+      (Laid (write_fault records.now source.now) (Items.encode_all (things_of source.now (records_in records.now))) out.now (numbered r) out'.now)
+  pub services_read : (κ1 : Lft) (kind choice : ℕ) (s : Bor (List ℕ)) (r : Result Service Refusal)
       → Contract (services_read_call.Pre (κ1, tt) (kind, (choice, (s, tt)))) (services_read_call.Post (κ1, tt) (kind, (choice, (s, tt))) r (kind, (choice, (s, tt))))
-      (r ≡ read_service kind choice s.now)
-  pub services_write : (κ1 κ2 : Lft) (v : Service) (value : Bor (List ℕ)) (out out' : MutBor (List ℕ)) (r : Written)
+      (numbered r ≡ read_service kind choice s.now)
+  pub services_write : (κ1 κ2 : Lft) (v : Service) (value : Bor (List ℕ)) (out out' : MutBor (List ℕ)) (r : Result ℕ Refusal)
       → Contract (services_write_call.Pre (κ1, (κ2, tt)) (v, (value, (out, tt)))) (services_write_call.Post (κ1, (κ2, tt)) (v, (value, (out, tt))) r (v, (value, (out', tt))))
-      (Laid (ServiceFault.fault_of v value.now) (ServiceWriter.octets_of v value.now) out.now r out'.now)
-  pub reader_first : (κ1 : Lft) (s : Bor (List ℕ)) (r : ReaderStep)
+      (Laid (ServiceFault.fault_of v value.now) (ServiceWriter.octets_of v value.now) out.now (numbered r) out'.now)
+  pub reader_first : (κ1 : Lft) (s : Bor (List ℕ)) (r : Result ReaderStep Refusal)
       → Contract (reader_first_call.Pre (κ1, tt) (s, tt)) (reader_first_call.Post (κ1, tt) (s, tt) r (s, tt))
-      (r ≡ step_of s.now 0)
-  pub reader_step_at : (κ1 : Lft) (s : Bor (List ℕ)) (at : ℕ) (r : ReaderStep)
+      (answer_of r ≡ step_of s.now 0)
+  pub reader_step_at : (κ1 : Lft) (s : Bor (List ℕ)) (at : ℕ) (r : Result ReaderStep Refusal)
       → Contract (reader_step_at_call.Pre (κ1, tt) (s, (at, tt))) (reader_step_at_call.Post (κ1, tt) (s, (at, tt)) r (s, (at, tt)))
-      (r ≡ step_of s.now at)
+      (answer_of r ≡ step_of s.now at)
   -- `next`, of the reader that `new` made and `moved` brought to the place: those three hold a reference and have no plain reading
-  pub reader_step_from : (κ1 : Lft) (s : Bor (List ℕ)) (at : ℕ) (r : ReaderStep)
+  pub reader_step_from : (κ1 : Lft) (s : Bor (List ℕ)) (at : ℕ) (r : Result ReaderStep Refusal)
       → Contract (reader_step_from_call.Pre (κ1, tt) (s, (at, tt))) (reader_step_from_call.Post (κ1, tt) (s, (at, tt)) r (s, (at, tt)))
-      (r ≡ step_of s.now at)
-  pub rebuild_take : (κ1 κ2 : Lft) (t : Slots) (g : Head) (o : Bor (List ℕ)) (area area' : MutBor (List ℕ)) (r : Taken)
+      (answer_of r ≡ step_of s.now at)
+  pub rebuild_take : (κ1 κ2 : Lft) (t : Slots) (g : Head) (o : Bor (List ℕ)) (area area' : MutBor (List ℕ)) (r : Rebuilt.Taken)
       → Contract (rebuild_take_call.Pre (κ1, (κ2, tt)) (t, (g, (o, (area, tt))))) (rebuild_take_call.Post (κ1, (κ2, tt)) (t, (g, (o, (area, tt)))) r (t, (g, (o, (area', tt)))))
-      (Rebuild.Gives (Rebuild.taking t g o.now area.now) r area'.now)
-  pub rebuild_forget : (t : Slots) (s : ℕ) (r : Freed)
+      (Rebuild.Gives (Rebuild.taking t g o.now area.now) (Rebuild.taken_of r) area'.now)
+  pub rebuild_forget : (t : Slots) (s : ℕ) (r : Result Slots Refusal)
       → Contract (rebuild_forget_call.Pre tt (t, (s, tt))) (rebuild_forget_call.Post tt (t, (s, tt)) r (t, (s, tt)))
-      (Rebuild.Forgets t s r)
+      (Rebuild.Forgets t s (Rebuild.forgot_of t r))
   pub collector_fresh : (e : Edition) (r : Collector)
       → Contract (collector_fresh_call.Pre tt (e, tt)) (collector_fresh_call.Post tt (e, tt) r (e, tt))
       (r ≡ fresh_collector e)
-  pub collector_feed : (κ1 κ2 κ3 : Lft) (c : Collector) (piece : Bor (List ℕ)) (report report' area area' : MutBor (List ℕ)) (r : Fed)
+  pub collector_feed : (κ1 κ2 κ3 : Lft) (c : Collector) (piece : Bor (List ℕ)) (report report' area area' : MutBor (List ℕ)) (r : Result Eaten.Fed Refusal)
       → Contract (collector_feed_call.Pre (κ1, (κ2, (κ3, tt))) (c, (piece, (report, (area, tt))))) (collector_feed_call.Post (κ1, (κ2, (κ3, tt))) (c, (piece, (report, (area, tt)))) r (c, (piece, (report', (area', tt)))))
-      (Feeds c report.now area.now piece.now r report'.now area'.now)
-  pub collector_silence : (κ1 : Lft) (c : Collector) (report report' : MutBor (List ℕ)) (r : Fell)
+      (Feeds c report.now area.now piece.now (fed_of c r) report'.now area'.now)
+  pub collector_silence : (κ1 : Lft) (c : Collector) (report report' : MutBor (List ℕ)) (r : Result Stilled.Fell Refusal)
       → Contract (collector_silence_call.Pre (κ1, tt) (c, (report, tt))) (collector_silence_call.Post (κ1, tt) (c, (report, tt)) r (c, (report', tt)))
-      (Stills c report.now r report'.now)
-  pub collector_forget : (c : Collector) (s : ℕ) (r : Forgot)
+      (Stills c report.now (fell_of c r) report'.now)
+  pub collector_forget : (c : Collector) (s : ℕ) (r : Result Collector Refusal)
       → Contract (collector_forget_call.Pre tt (c, (s, tt))) (collector_forget_call.Post tt (c, (s, tt)) r (c, (s, tt)))
-      (Forgets c s r)
+      (Forgets c s (forgot_of c r))
   pub replay : (κ1 κ2 κ3 : Lft) (c : Collector) (records : Bor (List ℕ)) (report report' area area' : MutBor (List ℕ)) (r : Played)
       → Contract (replay_call.Pre (κ1, (κ2, (κ3, tt))) (c, (records, (report, (area, tt))))) (replay_call.Post (κ1, (κ2, (κ3, tt))) (c, (records, (report, (area, tt)))) r (c, (records, (report', (area', tt)))))
-      (Plays c report.now area.now records.now r report'.now area'.now)
+      (Plays c report.now area.now records.now (played_of r) report'.now area'.now)
 
 -- the calls that C and Rust link, as hitchbarley has them: hitchbarley_c, which no crate can stand on, shows that its exports promise the same (proofs/Exports)
 pub record ExportedContracts : Type 0 where

@@ -1,9 +1,8 @@
 -- "What is cut and framed as type 5 or 6, all with one destination and one source, fed in order to a fresh collector of its edition without silence, must report kind 5
 -- with exactly the parameters given, if their tags are good." Over the calls by value and over the exported ones. Proved in proofs/CutAndFed, CutOverOctets and CanBeCut,
 -- each statement under its name in small letters.
-use Rattle.std.specs.Prelude.{ℕ, zero, suc, ◌+◌, ◌-◌, ◌*◌, ◌<◌, ◌≡◌, ◌⊎◌, true, false, List, [], ◌∷◌, ◌++◌, length, take, drop}
+use Rattle.std.specs.Prelude.{ℕ, zero, suc, ◌+◌, ◌-◌, ◌*◌, ◌<◌, ◌≡◌, ◌⊎◌, true, false, List, [], ◌∷◌, ◌++◌, length, take, drop, Ok}
 use Rattle.octets.specs.Reading.{Octets}
-use Rattle.octets.specs.declared.Written.TheVariants.{Wrote}
 use Rattle.runs.specs.Run.{octs}
 use Rattle.apdu.specs.declared.Edition.{Edition}
 use Rattle.frames.specs.Layout.{frame_octets}
@@ -14,7 +13,7 @@ use Rattle.cutter.specs.Calls as Cutter
 use Rattle.cutter.specs.declared.Message.{Message}
 use Rattle.cutter.specs.declared.Message.TheVariants.{Request, ComplexAck}
 use Rattle.cutter.specs.declared.Way.{Way}
-use Rattle.cutter.specs.declared.Parted.{Parted}
+use Rattle.cutter.specs.Calls.{Parted}
 use Rattle.items.specs.Reading.{items_of}
 use Rattle.items.specs.Reading.Out.{bad}
 use Rattle.items.specs.Listing.{ReadAs}
@@ -37,7 +36,7 @@ use Rattle.demands.specs.ExportedWriting.{RecordIs, way_in, cut_call_rows}
 -- being the k-th. What it wrote, end to end
 pub data Framed (kind : ℕ → ℕ) (to from : ℕ) : (k : ℕ) → List (List ℕ) → List ℕ → Type 0 where
   none : {k : ℕ} → Framed kind to from k [] []
-  next : {k : ℕ} (d area : List ℕ) (n : ℕ) (later : List ℕ) {ds : List (List ℕ)} {fed : List ℕ} → FrameWriter.Writes (kind k) to from d area (Wrote n) later
+  next : {k : ℕ} (d area : List ℕ) (n : ℕ) (later : List ℕ) {ds : List (List ℕ)} {fed : List ℕ} → FrameWriter.Writes (kind k) to from d area (Ok n) later
       → Framed kind to from (k + 1) ds fed → Framed kind to from k (d ∷ ds) (take n later ++ fed)
 
 -- a message that was cut in some area that holds the result, each of its NPDUs framed
@@ -47,7 +46,7 @@ pub record CutAndFramed (e : Edition) (m : Message) (w : Way) (params : List ℕ
   pub answer : Parted
   pub cut : Cutter.Cuts e m w params area answer later
   pub wrote : ℕ
-  pub written : answer.answer ≡ Wrote wrote
+  pub written : answer.answer ≡ Ok wrote
   pub segments : answer.segments ≡ count
   pub framed : Framed kind to from 0 (npdus_in (header_size m + w.each) count (take wrote later)) fed
 

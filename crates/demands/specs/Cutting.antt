@@ -1,8 +1,7 @@
 -- The cutter. "a cutter that turns a confirmed request or complex ack of up to 16,384 parameter octets into segments of a given number of parameter octets, 1 to 474,
 -- at a given window, behind a network header without addresses": each number exactly when, and what each NPDU reads back as. Proved in proofs/CutRows and Cutting,
 -- each statement under its name in small letters.
-use Rattle.std.specs.Prelude.{ℕ, zero, suc, ◌+◌, ◌-◌, ◌*◌, ◌≤◌, ◌<◌, ◌≡◌, ◌↔◌, ◌⊎◌, true, false, List, [], ◌∷◌, ◌++◌, ltb, length, get_or, take, drop}
-use Rattle.octets.specs.declared.Written.TheVariants.{Wrote, Refused}
+use Rattle.std.specs.Prelude.{ℕ, zero, suc, ◌+◌, ◌-◌, ◌*◌, ◌≤◌, ◌<◌, ◌≡◌, ◌↔◌, ◌⊎◌, true, false, List, [], ◌∷◌, ◌++◌, ltb, length, get_or, take, drop, Ok, Err}
 use Rattle.npdu.specs.Reading.{read_npdu}
 use Rattle.npdu.specs.Exact.{accepted}
 use Rattle.npdu.specs.declared.Npdu.{Npdu}
@@ -11,14 +10,13 @@ use Rattle.apdu.specs.Reading.{read_apdu}
 use Rattle.apdu.specs.declared.Edition.{Edition}
 use Rattle.apdu.specs.declared.Segment.{Segment}
 use Rattle.apdu.specs.declared.Pdu as Pdus
-use Rattle.apdu.specs.declared.Answer.TheVariants.{Good}
 use Rattle.messages.specs.Table.{Table, First, NoRow}
 use Rattle.messages.specs.Table.Table.{end, row}
 use Rattle.cutter.specs.Calls.{Cuts}
 use Rattle.cutter.specs.declared.Message.{Message}
 use Rattle.cutter.specs.declared.Message.TheVariants.{Request, ComplexAck}
 use Rattle.cutter.specs.declared.Way.{Way}
-use Rattle.cutter.specs.declared.Parted.{Parted}
+use Rattle.cutter.specs.Calls.{Parted}
 
 -- ---- the numbers, "No. | Given exactly when", in the request's order: the first row whose words hold (messages/Table: First), none where none does (NoRow)
 -- "a segment .. size or a window out of range": "1 to 474", "windows are 1 to 127"
@@ -62,12 +60,12 @@ pub record ResultHas (m : Message) (w : Way) (params : List ℕ) (size : ℕ) : 
 -- is written"
 pub record CutNumbered (e : Edition) (m : Message) (w : Way) (params area : List ℕ) (r : Parted) (later : List ℕ) : Type 0 where
   pub refused : (n : ℕ)
-      → (r.answer ≡ Refused n) ↔ (First (cut_rows e m w params) n ⊎ (NoRow (cut_rows e m w params) × (n ≡ 61) × ((size : ℕ) × ResultHas m w params size × (length area < size))))
-  pub wrote : (n : ℕ) → (r.answer ≡ Wrote n) ↔ (NoRow (cut_rows e m w params) × ResultHas m w params n × (n ≤ length area))
+      → (r.answer ≡ Err n) ↔ (First (cut_rows e m w params) n ⊎ (NoRow (cut_rows e m w params) × (n ≡ 61) × ((size : ℕ) × ResultHas m w params size × (length area < size))))
+  pub wrote : (n : ℕ) → (r.answer ≡ Ok n) ↔ (NoRow (cut_rows e m w params) × ResultHas m w params n × (n ≤ length area))
   pub last : First (cut_rows e m w params) 61 → ⊥
-  pub none : (n : ℕ) → r.answer ≡ Refused n → (r.segments ≡ 0) × (later ≡ area)
-  pub segments : (n : ℕ) → r.answer ≡ Wrote n → Needs w.each (length params) r.segments
-  pub past : (n : ℕ) → r.answer ≡ Wrote n → (length later ≡ length area) × (drop n later ≡ drop n area)
+  pub none : (n : ℕ) → r.answer ≡ Err n → (r.segments ≡ 0) × (later ≡ area)
+  pub segments : (n : ℕ) → r.answer ≡ Ok n → Needs w.each (length params) r.segments
+  pub past : (n : ℕ) → r.answer ≡ Ok n → (length later ≡ length area) × (drop n later ≡ drop n area)
 
 abbrev pub CutNumbers : Type 0
 CutNumbers = (e : Edition) (m : Message) (w : Way) (params area : List ℕ) (r : Parted) (later : List ℕ) → Cuts e m w params area r later
@@ -101,7 +99,7 @@ pub record ReadsAs (e : Edition) (m : Message) (w : Way) (count k : ℕ) (o part
   pub head : Npdu
   pub network : read_npdu o ≡ accepted 2 head
   pub plain : WithoutAddresses w head
-  pub application : read_apdu e (drop 2 o) ≡ Good (pdu_in m w.window count k)
+  pub application : read_apdu e (drop 2 o) ≡ Ok (pdu_in m w.window count k)
   pub parameters : drop (header_size m) o ≡ part
 
 -- lists joined in their order
@@ -121,5 +119,5 @@ pub record CutInto (e : Edition) (m : Message) (w : Way) (params : List ℕ) (co
   pub frames : (k : ℕ) → k < count → length (get_or npdus k []) ≤ 501
 
 abbrev pub CutSegments : Type 0
-CutSegments = (e : Edition) (m : Message) (w : Way) (params area : List ℕ) (r : Parted) (later : List ℕ) → Cuts e m w params area r later → (n : ℕ) → r.answer ≡ Wrote n
+CutSegments = (e : Edition) (m : Message) (w : Way) (params area : List ℕ) (r : Parted) (later : List ℕ) → Cuts e m w params area r later → (n : ℕ) → r.answer ≡ Ok n
     → CutInto e m w params r.segments (npdus_in (header_size m + w.each) r.segments (take n later))

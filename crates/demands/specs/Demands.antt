@@ -1,21 +1,20 @@
 -- What the user demands, in the user's order, as statements over the crates' own definitions. Each is proved in proofs/, under its name in small letters.
-use Rattle.std.specs.Prelude.{ℕ, ◌*◌, ◌≤◌, ◌<◌, ◌+◌, ◌≡◌, ◌↔◌, ◌⊎◌, true, false, List, [], ◌∷◌, ◌++◌, length, take, drop, set}
+use Rattle.std.specs.Prelude.{ℕ, ◌*◌, ◌≤◌, ◌<◌, ◌+◌, ◌≡◌, ◌↔◌, ◌⊎◌, true, false, List, [], ◌∷◌, ◌++◌, length, take, drop, set, Ok, Err}
 use Rattle.std.proofs.Math.Option.{some}
 use Rattle.std.specs.Borrow.{Bor}
 use Rattle.octets.specs.Reading.{Octets}
 use Rattle.octets.specs.Exact.{Exactly}
 use Rattle.octets.specs.Has.{Has}
 use Rattle.octets.specs.Laid.{Laid}
-use Rattle.octets.specs.declared.Written.{Written}
-use Rattle.octets.specs.declared.Written.TheVariants.{Wrote, Refused}
+use Rattle.octets.specs.Laid.{Written}
 use Rattle.sums.specs.Sums.{header_start, header_left, header_step, header_run, header_check, data_start, data_left, data_step, data_run, data_check, data_sent}
 use Rattle.runs.specs.Run.{Event, ended, Run, wire, walk}
 use Rattle.runs.specs.Run.Order.{trunk}
 use Rattle.frames.specs.Step.{fresh_of, feed_of, silence_of}
 use Rattle.frames.specs.declared.Outcome.TheVariants.{Quiet}
 use Rattle.frames.specs.declared.Receiver.{Receiver}
-use Rattle.frames.specs.declared.Fed.{Fed as ReceiverFed}
-use Rattle.frames.specs.declared.Fell.{Fell as ReceiverFell}
+use Rattle.frames.specs.Answers.{Fed as ReceiverFed}
+use Rattle.frames.specs.Answers.{Fell as ReceiverFell}
 use Rattle.trunk.specs.Reading.{Out, held_of, came, read_from}
 use Rattle.trunk.specs.Reading.Out.{good}
 use Rattle.trunk.specs.Spans.{Bytes, OutcomeAt}
@@ -23,7 +22,7 @@ use Rattle.trunk.specs.Demand.{Sound, reading, hurt_by}
 use Rattle.frames.specs.Layout.{frame_octets}
 use Rattle.frame_writer.specs.Fault as FrameFault
 use Rattle.npdu.specs.declared.Npdu.{Npdu}
-use Rattle.npdu.specs.declared.Reading.{Reading}
+use Rattle.npdu.specs.Reading.{Reading}
 use Rattle.npdu.specs.Reading.{read_npdu, refused_by}
 use Rattle.npdu.specs.Layout as Network
 use Rattle.npdu.specs.Valid as NetworkRules
@@ -31,7 +30,6 @@ use Rattle.npdu.specs.Fault as NetworkFault
 use Rattle.npdu.specs.Exact as NetworkRead
 use Rattle.apdu.specs.declared.Edition.{Edition}
 use Rattle.apdu.specs.declared.Pdu.{Pdu}
-use Rattle.apdu.specs.declared.Answer as Apdu
 use Rattle.apdu.specs.Reading.{read_apdu}
 use Rattle.apdu.specs.Fields.{params_at}
 use Rattle.apdu.specs.Layout as Header
@@ -42,7 +40,7 @@ use Rattle.cutter.specs.Calls as Cutter
 use Rattle.cutter.specs.Fault.{front_fault}
 use Rattle.cutter.specs.declared.Message.{Message}
 use Rattle.cutter.specs.declared.Way.{Way}
-use Rattle.cutter.specs.declared.Parted.{Parted}
+use Rattle.cutter.specs.Calls.{Parted}
 use Rattle.tags.specs.Types.{longest}
 use Rattle.tags.specs.Reading.{head_at}
 use Rattle.tags.specs.Layout as Tags
@@ -50,17 +48,17 @@ use Rattle.items.specs.Grammar as Items
 use Rattle.items.specs.Reading.{Out as ItemsRead, items_of, item_at, one_at, end_of}
 use Rattle.items.specs.Records.{Rec, things_of, records_octets}
 use Rattle.items.specs.Listing.{tally_number, tally_count, ReadAs, Listed}
-use Rattle.items.specs.declared.Tally.{Tally}
-use Rattle.items.specs.declared.One.{One as OneItem}
+use Rattle.items.specs.Answers.{Tally}
+use Rattle.items.specs.Answers.{One as OneItem}
 use Rattle.item_judge.specs.Judge.{write_fault, records_in}
 use Rattle.item_judge.specs.Meaning.{ReadingOf, Writable}
 use Rattle.reader.specs.Reading.{step_of}
 use Rattle.reader.specs.declared.Reader.{Reader}
-use Rattle.reader.specs.declared.Step.{Step as ReaderStep}
+use Rattle.reader.specs.Answers.{Step as ReaderStep}
 use Rattle.services.specs.Reading.{read_service}
 use Rattle.services.specs.Shows as Services
 use Rattle.services.specs.Layout as ServiceLayout
-use Rattle.services.specs.declared.Answer as ServiceAnswer
+use Rattle.services.specs.Parts as ServiceAnswer
 use Rattle.services.specs.declared.Service.{Service}
 use Rattle.services.specs.declared.Service.TheVariants.{WriteProperty}
 use Rattle.services.specs.declared.Target.{Target}
@@ -74,20 +72,20 @@ use Rattle.rebuild.specs.Calls as Rebuild
 use Rattle.rebuild.specs.declared.Key.{Key}
 use Rattle.rebuild.specs.declared.Slots.{Slots}
 use Rattle.rebuild.specs.declared.Segment.{Segment as Head}
-use Rattle.rebuild.specs.declared.Step.TheVariants as Took
-use Rattle.rebuild.specs.declared.Taken.{Taken}
-use Rattle.rebuild.specs.declared.Forgot.{Forgot as Freed}
+use Rattle.rebuild.specs.Calls.{Step as Took}
+use Rattle.rebuild.specs.Calls.{Taken}
+use Rattle.rebuild.specs.Calls.{Forgot as Freed}
 use Rattle.recordings.specs.Frames.{rules, history, Completes}
 use Rattle.reports.specs.Layout.{report_size}
 use Rattle.collector.specs.Frame.{bacnet, segment_at, damage_octets}
 use Rattle.collector.specs.Calls.{passing, slots_of, fresh_collector, written, said_so, Feeds, Stills, Forgets}
 use Rattle.collector.specs.Offering.{Passes, End, in_edition, Called}
 use Rattle.collector.specs.declared.Collector.{Collector}
-use Rattle.collector.specs.declared.Fed.{Fed}
-use Rattle.collector.specs.declared.Fell.{Fell}
-use Rattle.collector.specs.declared.Forgot.{Forgot}
+use Rattle.collector.specs.Answers.{Fed}
+use Rattle.collector.specs.Answers.{Fell}
+use Rattle.collector.specs.Answers.{Forgot}
 use Rattle.playback.specs.Calls.{Plays}
-use Rattle.playback.specs.declared.Played.{Played}
+use Rattle.playback.specs.Answers.{Played}
 use Rattle.state.specs.Layout.{state_octets, Fits}
 use Rattle.state.specs.Calls.{Loads}
 use Rattle.hitchbarley.specs.Trunk.{state_by}
@@ -114,7 +112,7 @@ pub record OneAnswer : Type 0 where
   pub frames_write : (kind to from : ℕ) (d out : List ℕ) → One (Written × List ℕ) (λ x. Laid (FrameFault.fault_of d) (frame_octets kind to from d) out x.0 x.1)
   pub npdu_read : (s : List ℕ) → One Reading (λ r. r ≡ read_npdu s)
   pub npdu_write : (h : Npdu) (out : List ℕ) → One (Written × List ℕ) (λ x. Laid (NetworkFault.fault_of h) (Network.encode h) out x.0 x.1)
-  pub apdu_read : (e : Edition) (s : List ℕ) → One Apdu.Answer (λ r. r ≡ read_apdu e s)
+  pub apdu_read : (e : Edition) (s : List ℕ) → One HeaderRead.Answer (λ r. r ≡ read_apdu e s)
   pub apdu_write : (e : Edition) (p : Pdu) (out : List ℕ) → One (Written × List ℕ) (λ x. Laid (HeaderFault.fault_of e p) (Header.header p) out x.0 x.1)
   pub apdu_fault_lem : (e : Edition) (p : Pdu) → One ℕ (λ r. r ≡ HeaderFault.fault_of e p)
   pub cut : (e : Edition) (m : Message) (w : Way) (params out : List ℕ) → One (Parted × List ℕ) (λ x. Cutter.Cuts e m w params out x.0 x.1)
@@ -147,7 +145,7 @@ NetworkNumbers = (s : List ℕ) → ((read_npdu s).refused ≡ 0) ⊎ (Between 1
 
 -- the APDU headers' reader: 20 to 24
 abbrev pub HeaderNumbers : Type 0
-HeaderNumbers = (e : Edition) (s : List ℕ) (n : ℕ) → read_apdu e s ≡ Apdu.Answer.Refused n → Between 20 24 n
+HeaderNumbers = (e : Edition) (s : List ℕ) (n : ℕ) → read_apdu e s ≡ Err n → Between 20 24 n
 
 -- listing: 30 to 39 with the count 0, 39 first of all; 61 exactly where the tags are good and the records do not fit, with their number (Words: ListNumbered)
 abbrev pub ListNumbers : Type 0
@@ -171,10 +169,10 @@ ItemNumbers = (s : List ℕ) (at : ℕ)
 -- services: "Tag refusals 30 to 39 come before 43 and 40 to 42"; 43 exactly for a "choice not above for that PDU"
 abbrev pub ServiceNumbers : Type 0
 ServiceNumbers = (kind choice : ℕ) (s : List ℕ)
-    → ((n : ℕ) → items_of s ≡ ItemsRead.bad n → read_service kind choice s ≡ ServiceAnswer.Answer.Refused n)
+    → ((n : ℕ) → items_of s ≡ ItemsRead.bad n → read_service kind choice s ≡ Err n)
     × ((k : ℕ) → ReadAs s k
-    → ((n : ℕ) → read_service kind choice s ≡ ServiceAnswer.Answer.Refused n → Between 40 43 n)
-    × ((read_service kind choice s ≡ ServiceAnswer.Answer.Refused 43) ↔ ((m : ServiceLayout.Message) → Services.For kind choice m → ⊥)))
+    → ((n : ℕ) → read_service kind choice s ≡ Err n → Between 40 43 n)
+    × ((read_service kind choice s ≡ Err 43) ↔ ((m : ServiceLayout.Message) → Services.For kind choice m → ⊥)))
 
 -- every writer refuses its fields first and a small area last, and changes nothing where it refuses; "nothing past a result is written"
 abbrev pub WritersRefuse : Type 0
@@ -200,7 +198,7 @@ SixtyTwo = (records source : List ℕ) → Octets source
     × (write_fault records source ≡ 62 → Writable records source → ⊥) × ((Writable records source → ⊥) → write_fault records source ≡ 62)
 
 abbrev pub SixtyOne : Type 0
-SixtyOne = (f : ℕ) (o area later : List ℕ) (r : Written) → (f ≡ 61 → ⊥) → Laid f o area r later → (r ≡ Refused 61) ↔ ((f ≡ 0) × (length area < length o))
+SixtyOne = (f : ℕ) (o area later : List ℕ) (r : Written) → (f ≡ 61 → ⊥) → Laid f o area r later → (r ≡ Err 61) ↔ ((f ≡ 0) × (length area < length o))
 
 -- listing: a tag's number, and the area as it was; 61 with the count needed where 12 octets an item do not fit, and the area as it was; else the count, the items'
 -- records in front, and the rest of the area as it was
@@ -325,11 +323,11 @@ NetworkExact = Exactly NetworkRead.Reads NetworkRead.ValidFirst NetworkRead.enco
 abbrev pub NetworkWritesBack : Type 0
 NetworkWritesBack = (s area later : List ℕ) (r : Written) → Octets s → (read_npdu s).refused ≡ 0 → (read_npdu s).next ≤ length area
     → Laid (NetworkFault.fault_of (read_npdu s).head) (Network.encode (read_npdu s).head) area r later
-    → (r ≡ Wrote (read_npdu s).next) × (later ≡ take (read_npdu s).next s ++ drop (read_npdu s).next area)
+    → (r ≡ Ok (read_npdu s).next) × (later ≡ take (read_npdu s).next s ++ drop (read_npdu s).next area)
 
 -- what the writer wrote reads back, absent parts shown as 0
 abbrev pub NetworkReadsBack : Type 0
-NetworkReadsBack = (h : Npdu) (n : ℕ) (area later : List ℕ) → NetworkRules.Kept h → Laid (NetworkFault.fault_of h) (Network.encode h) area (Wrote n) later
+NetworkReadsBack = (h : Npdu) (n : ℕ) (area later : List ℕ) → NetworkRules.Kept h → Laid (NetworkFault.fault_of h) (Network.encode h) area (Ok n) later
     → read_npdu later ≡ NetworkRead.accepted n (Network.shown h)
 
 -- ---- the eight APDU headers, each with its parameters, in every edition
@@ -337,12 +335,12 @@ abbrev pub HeadersExact : Type 0
 HeadersExact = (e : Edition) → Exactly (HeaderRead.Reads e) (HeaderRules.Valid e) Header.encode
 
 abbrev pub HeadersWriteBack : Type 0
-HeadersWriteBack = (e : Edition) (s area later : List ℕ) (p : Pdu) (r : Written) → read_apdu e s ≡ Apdu.Answer.Good p → params_at p ≤ length area
-    → Laid (HeaderFault.fault_of e p) (Header.header p) area r later → (r ≡ Wrote (params_at p)) × (later ≡ take (params_at p) s ++ drop (params_at p) area)
+HeadersWriteBack = (e : Edition) (s area later : List ℕ) (p : Pdu) (r : Written) → read_apdu e s ≡ Ok p → params_at p ≤ length area
+    → Laid (HeaderFault.fault_of e p) (Header.header p) area r later → (r ≡ Ok (params_at p)) × (later ≡ take (params_at p) s ++ drop (params_at p) area)
 
 abbrev pub HeadersReadBack : Type 0
-HeadersReadBack = (e : Edition) (p : Pdu) (n : ℕ) (area later t : List ℕ) → Laid (HeaderFault.fault_of e p) (Header.header p) area (Wrote n) later → HeaderRules.Follows p t
-    → read_apdu e (take n later ++ t) ≡ Apdu.Answer.Good (HeaderFault.shown p)
+HeadersReadBack = (e : Edition) (p : Pdu) (n : ℕ) (area later t : List ℕ) → Laid (HeaderFault.fault_of e p) (Header.header p) area (Ok n) later → HeaderRules.Follows p t
+    → read_apdu e (take n later ++ t) ≡ Ok (HeaderFault.shown p)
 
 -- ---- tags: one tag with its contents is read at a place exactly when an item that keeps the rules stands there
 abbrev pub TagsExact : Type 0
@@ -357,12 +355,12 @@ ItemsExact = Exactly Items.Reads Items.Grammar Items.encode_all
 abbrev pub ItemsWriteBack : Type 0
 ItemsWriteBack = (o lent listed area later : List ℕ) (n : ℕ) (r : Written) → Octets o → Listed o lent (Tally.Items n) listed → length o ≤ length area
     → (let records = take (12 * n) listed in Laid (write_fault records o) (Items.encode_all (things_of o (records_in records))) area r later
-    → (r ≡ Wrote (length o)) × (later ≡ o ++ drop (length o) area))
+    → (r ≡ Ok (length o)) × (later ≡ o ++ drop (length o) area))
 
 -- what was written reads back as the same items, places apart
 abbrev pub ItemsReadBack : Type 0
 ItemsReadBack = (records source area : List ℕ) (n : ℕ) (later : List ℕ) → Octets source
-    → Laid (write_fault records source) (Items.encode_all (things_of source (records_in records))) area (Wrote n) later → ReadingOf source (records_in records) (take n later)
+    → Laid (write_fault records source) (Items.encode_all (things_of source (records_in records))) area (Ok n) later → ReadingOf source (records_in records) (take n later)
 
 -- ---- the services: for every kind of PDU and choice, octets are read as a service that shows this message exactly when the message is of that kind and choice,
 -- keeps its rules, and the octets are its layout
@@ -371,9 +369,9 @@ ServicesExact = (kind choice : ℕ) → Exactly (Services.Shows kind choice) (Se
 
 -- a service that was read is written, with the octets of its value, as the octets that it was read from
 abbrev pub ServicesWriteBack : Type 0
-ServicesWriteBack = (kind choice : ℕ) (o area later : List ℕ) (v : Service) (r : Written) → Octets o → read_service kind choice o ≡ ServiceAnswer.Answer.Good v → length o ≤ length area
+ServicesWriteBack = (kind choice : ℕ) (o area later : List ℕ) (v : Service) (r : Written) → Octets o → read_service kind choice o ≡ Ok v → length o ≤ length area
     → (let value = ServiceWriter.value_in o v in Laid (ServiceFault.fault_of v value) (ServiceWriter.octets_of v value) area r later
-    → (r ≡ Wrote (length o)) × (later ≡ o ++ drop (length o) area))
+    → (r ≡ Ok (length o)) × (later ≡ o ++ drop (length o) area))
 
 -- what keeps the rules, absent parts taken as 0, is written wherever the area is long enough, and reads back as the same message
 abbrev pub ServicesAreWritten : Type 0
@@ -382,13 +380,13 @@ ServicesAreWritten = (v : Service) (ts : List Tags.Thing) (area later : List ℕ
     let m = Services.message_of (shown_service v) ts in
     Services.ValidFor (ServiceWriter.kind_of v) (ServiceWriter.choice_of v) m → length (ServiceWriter.octets_of v value) ≤ length area
     → Laid (ServiceFault.fault_of v value) (ServiceWriter.octets_of v value) area r later
-    → (n : ℕ) × (r ≡ Wrote n) × Services.Shows (ServiceWriter.kind_of v) (ServiceWriter.choice_of v) (take n later) m)
+    → (n : ℕ) × (r ≡ Ok n) × Services.Shows (ServiceWriter.kind_of v) (ServiceWriter.choice_of v) (take n later) m)
 
 -- what was written reads back: whatever the value's octets are, the output is accepted, since the writer gives "the number that reading their output would give";
 -- where the value is whole items by itself, as the message that was written
 abbrev pub ServicesReadBack : Type 0
 ServicesReadBack = (v : Service) (value area later : List ℕ) (n : ℕ) → Octets later
-    → Laid (ServiceFault.fault_of v value) (ServiceWriter.octets_of v value) area (Wrote n) later
+    → Laid (ServiceFault.fault_of v value) (ServiceWriter.octets_of v value) area (Ok n) later
     → AcceptedBack v (take n later) × (KeptService v → WholeBack v value (take n later))
 
 -- the exception: a value that is not. With `0A` as value and 63 as priority, `3E 0A 3F 49 3F` is written; the item's contents are the group's closing and the
@@ -399,7 +397,7 @@ ServicesSwallow =
     let v : Service = WriteProperty (record { target = target; value = record { at = 0; len = 0 }; ranked = true; priority = 63 }) in
     let w : Service = WriteProperty (record { target = target; value = record { at = 8; len = 3 }; ranked = false; priority = 0 }) in
     let o = ServiceWriter.octets_of v (0x0A ∷ []) in
-    (ServiceFault.fault_of v (0x0A ∷ []) ≡ 0) × (read_service 0 15 o ≡ ServiceAnswer.Answer.Good w) × (ServiceWriter.value_in o w ≡ 0x0A ∷ 0x3F ∷ 0x49 ∷ []))
+    (ServiceFault.fault_of v (0x0A ∷ []) ≡ 0) × (read_service 0 15 o ≡ Ok w) × (ServiceWriter.value_in o w ≡ 0x0A ∷ 0x3F ∷ 0x49 ∷ []))
 
 -- ---- DEMAND 3. "From one state that refusal 59 passes and one message area, fix one run of trunk octets with silences and forget orders at fixed places. Cut the
 -- octets anywhere, offer the rest again after each report, lend areas of the right sizes that nobody else writes. Then reports, final state and message area are

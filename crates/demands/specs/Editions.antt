@@ -14,11 +14,11 @@ use Rattle.apdu.specs.EditionsCompared.{ReadingsCompared, FaultsCompared, UpperB
 use Rattle.collector.specs.Calls.{fresh_collector, Feeds, Stills, Forgets}
 use Rattle.collector.specs.Offering.{End, Called}
 use Rattle.collector.specs.declared.Collector.{Collector}
-use Rattle.collector.specs.declared.Fed.{Fed}
-use Rattle.collector.specs.declared.Fell.{Fell}
-use Rattle.collector.specs.declared.Forgot.{Forgot}
+use Rattle.collector.specs.Answers.{Fed}
+use Rattle.collector.specs.Answers.{Fell}
+use Rattle.collector.specs.Answers.{Forgot}
 use Rattle.playback.specs.Calls.{Plays}
-use Rattle.playback.specs.declared.Played.{Played}
+use Rattle.playback.specs.Answers.{Played}
 use Rattle.state.specs.Edition.{edition_of}
 use Rattle.state.specs.Calls.{Loads}
 use Rattle.hitchbarley.specs.Trunk as Trunk

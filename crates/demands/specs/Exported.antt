@@ -1,6 +1,6 @@
 -- The calls that C and Rust link, as their users read them: each number exactly when, what a refusal leaves, and what is done otherwise, by the statements of
 -- the calls below.
-use Rattle.std.specs.Prelude.{ℕ, ◌≤◌, ◌<◌, ◌≡◌, ◌↔◌, ◌⊎◌, true, false, List, ◌++◌, eqb, leb, length, take, drop}
+use Rattle.std.specs.Prelude.{ℕ, ◌≤◌, ◌<◌, ◌≡◌, ◌↔◌, ◌⊎◌, true, false, List, ◌++◌, eqb, leb, length, take, drop, Err, Ok}
 use Rattle.octets.specs.Choice.{pick}
 use Rattle.octets.specs.Reading.{Octets, oct}
 use Rattle.sums.specs.Sums.{header_run, header_check, data_run, data_sent}
@@ -14,19 +14,17 @@ use Rattle.apdu.specs.Fields.{params_at}
 use Rattle.apdu.specs.Layout as Header
 use Rattle.apdu.specs.Fault as HeaderFault
 use Rattle.apdu.specs.declared.Edition.{Edition}
-use Rattle.apdu.specs.declared.Answer.TheVariants as ApduAnswer
 use Rattle.apdu.specs.declared.Pdu.{Pdu}
 use Rattle.items.specs.Grammar as Items
 use Rattle.items.specs.Reading.{one_at, end_of}
 use Rattle.items.specs.Records.{rec, record_octets, things_of}
 use Rattle.items.specs.Listing.{Listed}
-use Rattle.items.specs.declared.Tally.{Tally}
-use Rattle.items.specs.declared.One as OneItem
+use Rattle.items.specs.Answers.{Tally}
+use Rattle.items.specs.Answers as OneItem
 use Rattle.item_judge.specs.Judge.{write_fault, records_in}
 use Rattle.reader.specs.Reading.{step_of}
-use Rattle.reader.specs.declared.Step.TheVariants as Step
+use Rattle.reader.specs.Answers.{Step}
 use Rattle.services.specs.Reading.{read_service}
-use Rattle.services.specs.declared.Answer.TheVariants as ServiceAnswer
 use Rattle.services.specs.declared.Service.{Service}
 use Rattle.service_writer.specs.Layout as ServiceWriter
 use Rattle.service_writer.specs.Fault as ServiceFault
@@ -35,9 +33,9 @@ use Rattle.rebuild.specs.View.{keys}
 use Rattle.reports.specs.Layout.{report_size}
 use Rattle.collector.specs.Calls.{slots_of, fresh_collector, Feeds, Stills, Forgets}
 use Rattle.collector.specs.declared.Collector.{Collector}
-use Rattle.collector.specs.declared.Fed.{Fed}
-use Rattle.collector.specs.declared.Fell.{Fell}
-use Rattle.collector.specs.declared.Forgot.{Forgot}
+use Rattle.collector.specs.Answers.{Fed}
+use Rattle.collector.specs.Answers.{Fell}
+use Rattle.collector.specs.Answers.{Forgot}
 use Rattle.records.specs.Flag.{flag}
 use Rattle.records.specs.Network.{npdu_size, npdu_record, npdu_at}
 use Rattle.records.specs.Application.{apdu_size, apdu_record, apdu_at}
@@ -136,8 +134,8 @@ ExportedApduRead = (e : Edition) (s fields : List ℕ) (r next : ℕ) (fields' :
     → (let a = read_apdu e s in
     FillsTo apdu_size (apdu_good a) (apdu_number a) (apdu_octets a) (apdu_params a) fields r next fields'
     → ReadsInto 13 fields r ((fields' ≡ fields) × (next ≡ 0))
-    (((x : ℕ) → a ≡ ApduAnswer.Refused x → r ≡ x)
-    × ((p : Pdu) → a ≡ ApduAnswer.Good p → (r ≡ 0) × (fields' ≡ apdu_record p) × (next ≡ params_at p))))
+    (((x : ℕ) → a ≡ Err x → r ≡ x)
+    × ((p : Pdu) → a ≡ Ok p → (r ≡ 0) × (fields' ≡ apdu_record p) × (next ≡ params_at p))))
 
 -- the reader's step: an item has its record, at depth 0, and a group its opening's, with the place after it; at the end nothing is read, which is no refusal
 abbrev pub ExportedStep : Type 0
@@ -156,7 +154,7 @@ ExportedServiceRead = (kind choice : ℕ) (s fields : List ℕ) (r : ℕ) (field
     → (let a = read_service kind choice s in
     Fills service_size (service_good a) (service_number a) (service_octets a) fields r fields'
     → ReadsInto 26 fields r (fields' ≡ fields)
-    (((x : ℕ) → a ≡ ServiceAnswer.Refused x → r ≡ x) × ((v : Service) → a ≡ ServiceAnswer.Good v → (r ≡ 0) × (fields' ≡ service_record v))))
+    (((x : ℕ) → a ≡ Err x → r ≡ x) × ((v : Service) → a ≡ Ok v → (r ≡ 0) × (fields' ≡ service_record v))))
 
 -- ---- listing and stepping over an item: the answer of the call below as its number and what it gives back, 0 with a refusal; only 61 of the listing comes
 -- with the count needed. Its listing is the one of which ListingRefuses, CheckedByNoRecords and ListedRecords speak

@@ -1,8 +1,7 @@
 -- hb_frame_write and hb_cut as their users read them: each number exactly when, what a refusal leaves, and what is done otherwise, by the statements of the calls
 -- below. Each statement is proved in proofs/ExportedWriting, under its name in small letters.
-use Rattle.std.specs.Prelude.{ℕ, ◌*◌, ◌≤◌, ◌<◌, ◌≡◌, ◌↔◌, ◌⊎◌, List, [], ◌∷◌, ltb, length}
+use Rattle.std.specs.Prelude.{ℕ, ◌*◌, ◌≤◌, ◌<◌, ◌≡◌, ◌↔◌, ◌⊎◌, List, [], ◌∷◌, ltb, length, Ok}
 use Rattle.octets.specs.Reading.{oct}
-use Rattle.octets.specs.declared.Written.TheVariants.{Wrote}
 use Rattle.apdu.specs.Editions.{most}
 use Rattle.apdu.specs.declared.Edition.{Edition}
 use Rattle.frames.specs.Layout.{frame_octets}
@@ -27,7 +26,7 @@ pub record FrameWrite (kind to from : ℕ) (d area : List ℕ) (r wrote : ℕ) (
   pub fine : (r ≡ 0) ↔ ((length d ≤ 501) × (frame_size d ≤ length area))
   pub only : (r ≡ 0) ⊎ ((r ≡ 64) ⊎ (r ≡ 61))
   pub refused : (r ≡ 0 → ⊥) → (wrote ≡ 0) × (later ≡ area)
-  pub done : r ≡ 0 → FrameWriter.Writes kind to from d area (Wrote wrote) later
+  pub done : r ≡ 0 → FrameWriter.Writes kind to from d area (Ok wrote) later
 
 abbrev pub ExportedFrameWrite : Type 0
 ExportedFrameWrite = (kind to from : ℕ) (d area : List ℕ) (r wrote : ℕ) (later : List ℕ) → Writes (FrameFault.fault_of d) (frame_octets kind to from d) area r wrote later
@@ -65,7 +64,7 @@ pub record CutCall (e : Edition) (fields : List ℕ) (reply priority each : ℕ)
   pub refused : (r ≡ 0 → ⊥) → (wrote ≡ 0) × (segments ≡ 0) × (later ≡ area)
   pub done : r ≡ 0
       → (m : Message) × RecordIs fields (oct fields 9) m
-      × Cutter.Cuts e m (way_in reply priority each (oct fields 9)) params area (record { answer = Wrote wrote; segments = segments }) later
+      × Cutter.Cuts e m (way_in reply priority each (oct fields 9)) params area (record { answer = Ok wrote; segments = segments }) later
 
 abbrev pub ExportedCut : Type 0
 ExportedCut = (e : Edition) (fields : List ℕ) (reply priority each : ℕ) (params area : List ℕ) (r wrote segments : ℕ) (later : List ℕ)

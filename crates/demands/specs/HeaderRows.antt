@@ -1,12 +1,11 @@
 -- The APDU headers' rows, 20 to 24, each number exactly when and in every edition, in the page's words over layouts and acceptance (apdu's Rows), not over the
 -- reading that follows the code; the writer's number exactly; and a header of each kind worked out by hand from the page's layouts.
-use Rattle.std.specs.Prelude.{ℕ, ◌≡◌, ◌↔◌, true, false, List, [], ◌∷◌, ◌++◌, length}
+use Rattle.std.specs.Prelude.{ℕ, ◌≡◌, ◌↔◌, true, false, List, [], ◌∷◌, ◌++◌, length, Ok, Err}
 use Rattle.octets.specs.Reading.{Octets}
 use Rattle.apdu.specs.declared.Edition.{Edition}
 use Rattle.apdu.specs.declared.Segment.{Segment}
 use Rattle.apdu.specs.declared.Pdu.{Pdu}
 use Rattle.apdu.specs.declared.Pdu.TheVariants.{Request, Unconfirmed, SimpleAck, ComplexAck, SegmentAck, Error, Reject, Abort}
-use Rattle.apdu.specs.declared.Answer.TheVariants.{Good, Refused}
 use Rattle.apdu.specs.Reading.{read_apdu}
 use Rattle.apdu.specs.Fields.{params_at}
 use Rattle.apdu.specs.Layout.{segment, header}
@@ -15,27 +14,27 @@ use Rattle.apdu.specs.Rows.{EndsEarly, HighType, ZeroBitSet, SizeOrWindow, LeftO
 
 -- "Octets are judged left to right and a missing octet when it is reached": what is refused with another number than 20 is so whatever follows
 abbrev pub HeaderLeftToRight : Type 0
-HeaderLeftToRight = (e : Edition) (s t : List ℕ) (n : ℕ) → read_apdu e s ≡ Refused n → (n ≡ 20 → ⊥) → read_apdu e (s ++ t) ≡ Refused n
+HeaderLeftToRight = (e : Edition) (s t : List ℕ) (n : ℕ) → read_apdu e s ≡ Err n → (n ≡ 20 → ⊥) → read_apdu e (s ++ t) ≡ Err n
 
 -- 20 "ends early": not accepted, and accepted with some octets more
 abbrev pub HeaderEndsEarly : Type 0
-HeaderEndsEarly = (e : Edition) (s : List ℕ) → (read_apdu e s ≡ Refused 20) ↔ EndsEarly e s
+HeaderEndsEarly = (e : Edition) (s : List ℕ) → (read_apdu e s ≡ Err 20) ↔ EndsEarly e s
 
 -- 21 "type 8-15": "High four bits of the first octet are the type"
 abbrev pub HeaderHighType : Type 0
-HeaderHighType = (e : Edition) (s : List ℕ) → Octets s → (read_apdu e s ≡ Refused 21) ↔ HighType s
+HeaderHighType = (e : Edition) (s : List ℕ) → Octets s → (read_apdu e s ≡ Err 21) ↔ HighType s
 
 -- 22 "zero bit set or MOR without SEG": "Other low bits are zero; MOR needs SEG", "upper four bits zero", in the later edition "Bit 7 stays zero" (specs/Editions)
 abbrev pub HeaderZeroBitSet : Type 0
-HeaderZeroBitSet = (e : Edition) (s : List ℕ) → (read_apdu e s ≡ Refused 22) ↔ ZeroBitSet e s
+HeaderZeroBitSet = (e : Edition) (s : List ℕ) → (read_apdu e s ≡ Err 22) ↔ ZeroBitSet e s
 
 -- 23 "size code or window": "the size code 0 to 5", "windows are 1 to 127"
 abbrev pub HeaderSizeOrWindow : Type 0
-HeaderSizeOrWindow = (e : Edition) (s : List ℕ) → (read_apdu e s ≡ Refused 23) ↔ SizeOrWindow e s
+HeaderSizeOrWindow = (e : Edition) (s : List ℕ) → (read_apdu e s ≡ Err 23) ↔ SizeOrWindow e s
 
 -- 24 "octets left over": a good header of type 2, 4, 6 or 7 and at least one octet more
 abbrev pub HeaderLeftOver : Type 0
-HeaderLeftOver = (e : Edition) (s : List ℕ) → (read_apdu e s ≡ Refused 24) ↔ LeftOver e s
+HeaderLeftOver = (e : Edition) (s : List ℕ) → (read_apdu e s ≡ Err 24) ↔ LeftOver e s
 
 -- of accepted (0), 20, 21, 22, 23 and 24, by these words, exactly one holds
 abbrev pub HeaderOneOutcome : Type 0
@@ -51,11 +50,11 @@ HeaderWriterExact = (e : Edition) (p : Pdu)
 
 -- and where both codes fit their four bits it is the number that reading such octets gives, whatever follows them
 abbrev pub HeaderWriterAsRead : Type 0
-HeaderWriterAsRead = (e : Edition) (p : Pdu) (t : List ℕ) → Fits p → (fault_of e p ≡ 0 → ⊥) → read_apdu e (header p ++ t) ≡ Refused (fault_of e p)
+HeaderWriterAsRead = (e : Edition) (p : Pdu) (t : List ℕ) → Fits p → (fault_of e p ≡ 0 → ⊥) → read_apdu e (header p ++ t) ≡ Err (fault_of e p)
 
 -- in an edition o, with parameters t after it, is read as p with the parameters' place behind o; p is written as o
 pub record Whole (e : Edition) (o t : List ℕ) (p : Pdu) : Type 0 where
-  pub read : read_apdu e (o ++ t) ≡ Good p
+  pub read : read_apdu e (o ++ t) ≡ Ok p
   pub place : params_at p ≡ length o
   pub fine : fault_of e p ≡ 0
   pub laid : header p ≡ o
@@ -83,10 +82,10 @@ HeadersWorked = (e : Edition) → WorkedIn e
 
 -- ---- worked out, the same in every edition (where they differ: specs/Editions): both sides of each limit, and which of two faults is named
 abbrev pub Reads : Edition → List ℕ → Pdu → Type 0
-Reads e o p = read_apdu e o ≡ Good p
+Reads e o p = read_apdu e o ≡ Ok p
 
 abbrev pub Refuses : Edition → List ℕ → ℕ → Type 0
-Refuses e o n = read_apdu e o ≡ Refused n
+Refuses e o n = read_apdu e o ≡ Err n
 
 abbrev pub request_of : Segment → ℕ → Pdu
 request_of g size = Request (record { segment = g; sa = false; size = size; invoke = 17; choice = 14; accepts = 0 })

@@ -9,7 +9,7 @@ use Rattle.items.specs.Reading.Out.{good, bad}
 use Rattle.items.specs.Grammar.{encode_all, Grammar, record_of, depth_after, records_from}
 use Rattle.items.specs.Listing.{ReadAs, listed_of, Listed, listing}
 use Rattle.items.specs.Rows.{Row}
-use Rattle.items.specs.declared.Tally.{Tally}
+use Rattle.items.specs.Answers.{Tally}
 use Rattle.demands.specs.Words.{One}
 
 -- ---- "No. | Given exactly when": a run of items is refused with a number exactly when the row of that number says so. 39 "over 16,384 parameter octets

@@ -1,6 +1,6 @@
 -- "The key (MS/TP source, MS/TP destination, PDU type, invoke ID) must add SNET, SADR, DNET and DADR from the network header, absence being distinct from every present
 -- value." What the eight parts of a segment's key are, by its frame's own octets, and that segments are joined, and laid in an open slot, by all eight.
-use Rattle.std.specs.Prelude.{ℕ, ◌+◌, ◌≤◌, ◌<◌, ◌≡◌, ◌↔◌, ◌⊎◌, Bool, true, List, [], ◌∷◌, ◌++◌, length, take, drop}
+use Rattle.std.specs.Prelude.{ℕ, ◌+◌, ◌≤◌, ◌<◌, ◌≡◌, ◌↔◌, ◌⊎◌, Bool, true, List, [], ◌∷◌, ◌++◌, length, take, drop, Ok}
 use Rattle.std.proofs.Math.Option.{Option, none, some}
 use Rattle.octets.specs.Choice.{given}
 use Rattle.octets.specs.Reading.{oct, Octets}
@@ -13,7 +13,6 @@ use Rattle.apdu.specs.Reading.{read_apdu}
 use Rattle.apdu.specs.Fields.{kind_of, invoke_of}
 use Rattle.apdu.specs.declared.Edition.{Edition}
 use Rattle.apdu.specs.declared.Pdu.{Pdu}
-use Rattle.apdu.specs.declared.Answer.TheVariants.{Good}
 use Rattle.messages.specs.Slots.{Segment, Box, part, slot_at}
 use Rattle.messages.specs.Rows.{rebuild}
 use Rattle.messages.specs.Rows.Answer.{taken, completed}
@@ -59,7 +58,7 @@ pub record KeyHeard (e : Edition) (head payload : List ℕ) (k : Key) : Type 0 w
   pub destination : k.destination ≡ oct head 1
   pub network : (read_npdu payload).refused ≡ 0
   pub pdu : Pdu
-  pub application : read_apdu e (drop (read_npdu payload).next payload) ≡ Good pdu
+  pub application : read_apdu e (drop (read_npdu payload).next payload) ≡ Ok pdu
   pub kind : k.kind ≡ kind_of pdu
   pub invoke : k.invoke ≡ invoke_of pdu
   pub snet : (let h = (read_npdu payload).head in net_of k.from ≡ net_if h.source h.snet)

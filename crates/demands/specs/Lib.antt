@@ -28,3 +28,4 @@ pub mod FrameWriting
 pub mod Cutting
 pub mod ExportedWriting
 pub mod CutAndFed
+pub mod Apart

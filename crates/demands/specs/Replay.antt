@@ -21,7 +21,7 @@ use Rattle.playback.specs.Valid.{Valid, Bad, Behind}
 use Rattle.playback.specs.Reading.{Reads}
 use Rattle.playback.specs.Calls.{Plays}
 use Rattle.playback.specs.Offering.{Replayed, OneByOne}
-use Rattle.playback.specs.declared.Played.{Played}
+use Rattle.playback.specs.Answers.{Played}
 use Rattle.demands.specs.Words.{Broken, Four}
 
 -- ---- the records: "four-octet records, no header: kind (0 octet, 1 silence, 2 forget), value, two zeros"

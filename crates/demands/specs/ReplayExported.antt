@@ -14,7 +14,7 @@ use Rattle.state.specs.Layout.{state_size}
 use Rattle.playback.specs.Layout.{record_octets}
 use Rattle.playback.specs.Valid.{Behind}
 use Rattle.playback.specs.Calls.{Plays}
-use Rattle.playback.specs.declared.Played.{Played}
+use Rattle.playback.specs.Answers.{Played}
 use Rattle.hitchbarley.specs.Trunk.{Feeds, Stills, Forgets}
 use Rattle.hitchbarley.specs.Replay.{Replays}
 use Rattle.hitchbarley.specs.Offering.{Heard, told_by, Linked}

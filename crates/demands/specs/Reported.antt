@@ -1,6 +1,6 @@
 -- What is reported of every frame, and which segment a good one carries: the page's "Reports" and the key of "Rebuilding", over the readings of network header, APDU
 -- header and tags that the other files of this page hold. A report is "One record of 16 octets, no header".
-use Rattle.std.specs.Prelude.{ℕ, ◌*◌, ◌/◌, ◌%◌, ◌≡◌, ◌↔◌, ◌⊎◌, Bool, true, false, List, [], ◌∷◌, length, take, drop}
+use Rattle.std.specs.Prelude.{ℕ, ◌*◌, ◌/◌, ◌%◌, ◌≡◌, ◌↔◌, ◌⊎◌, Bool, true, false, List, [], ◌∷◌, length, take, drop, Err}
 use Rattle.std.proofs.Math.Option.{none, some}
 use Rattle.octets.specs.Reading.{oct}
 use Rattle.npdu.specs.Reading.{read_npdu}
@@ -9,7 +9,6 @@ use Rattle.npdu.specs.declared.Npdu.{Npdu}
 use Rattle.apdu.specs.Reading as Header
 use Rattle.apdu.specs.Reading.{read_apdu}
 use Rattle.apdu.specs.declared.Edition.{Edition}
-use Rattle.apdu.specs.declared.Answer.TheVariants.{Refused}
 use Rattle.apdu.specs.declared.Segment.{Segment as Numbered}
 use Rattle.apdu.specs.declared.RequestPdu.{RequestPdu}
 use Rattle.apdu.specs.declared.ComplexAckPdu.{ComplexAckPdu}
@@ -32,8 +31,8 @@ use Rattle.reports.specs.declared.Report.{Report}
 use Rattle.collector.specs.Frame.{segment_at, plain_at, answered_at, bacnet}
 use Rattle.collector.specs.Calls.{slots_of, Feeds, Stills}
 use Rattle.collector.specs.declared.Collector.{Collector}
-use Rattle.collector.specs.declared.Fed.{Fed}
-use Rattle.collector.specs.declared.Fell.{Fell}
+use Rattle.collector.specs.Answers.{Fed}
+use Rattle.collector.specs.Answers.{Fell}
 use Rattle.demands.specs.Words.{Between, address_in}
 
 -- ---- the 16 octets. "0: kind; 1: refusal number or 0; 2 to 4: frame type, destination, source; 5: first APDU octet; 6: invoke ID; 7: slot; 8 to 11: length,
@@ -137,7 +136,7 @@ pub data PlainReport (e : Edition) (h d o : List ℕ) : Type 0 where
   -- 7: a network layer message, by the octets behind its header, message type and vendor with it
   network : (rest : List ℕ) → Behind h d true rest → o ≡ kind7 h (length rest) → PlainReport e h d o
   -- 6 with the APDU header's number, 20 to 24; with the tag number of its parameters, 30 to 39
-  apdu_refused : (a : List ℕ) (x : ℕ) → Behind h d false a → read_apdu e a ≡ Refused x → o ≡ kind6 h x → PlainReport e h d o
+  apdu_refused : (a : List ℕ) (x : ℕ) → Behind h d false a → read_apdu e a ≡ Err x → o ≡ kind6 h x → PlainReport e h d o
   tags_refused : (a : List ℕ) (p : Pdu) (t : List ℕ) (x : ℕ) → Carries e h d a p t → seg_in p ≡ false → items_of t ≡ ItemsRead.bad x → o ≡ kind6 h x → PlainReport e h d o
   -- 3: the whole APDU's length; PDUs without parameters have no tags to judge
   apdu : (a : List ℕ) (p : Pdu) (t : List ℕ) (n : ℕ) → Carries e h d a p t → seg_in p ≡ false → ReadAs t n

@@ -10,7 +10,7 @@ use Rattle.rebuild.specs.Calls as Rebuild
 use Rattle.rebuild.specs.declared.Key.{Key}
 use Rattle.rebuild.specs.declared.Slots.{Slots}
 use Rattle.rebuild.specs.declared.Segment.{Segment as Head}
-use Rattle.rebuild.specs.declared.Taken.{Taken}
+use Rattle.rebuild.specs.Calls.{Taken}
 
 -- 59 names "two open slots of one key": there are none. What a slot holds may be over 16,384.
 abbrev pub OneSlotEach : List (Slot Key) → Type 0

@@ -1,6 +1,6 @@
 -- The services' rows, 40 to 43, each "given exactly when", in document 01's words over the parts that a layout wants (services/specs/Rows), not over the
 -- reading that follows the code; and octets on either side of every rule of every service, worked out by hand from the page.
-use Rattle.std.specs.Prelude.{ℕ, ◌≡◌, ◌↔◌, ◌⊎◌, List, [], ◌∷◌, ◌++◌}
+use Rattle.std.specs.Prelude.{ℕ, ◌≡◌, ◌↔◌, ◌⊎◌, List, [], ◌∷◌, ◌++◌, Ok, Err}
 use Rattle.octets.specs.Reading.{Octets}
 use Rattle.tags.specs.Layout.{Thing}
 use Rattle.items.specs.Grammar.{encode_all, Grammar, Reads}
@@ -8,7 +8,6 @@ use Rattle.services.specs.Reading.{read_service}
 use Rattle.services.specs.Layout.{Message, things_of_message}
 use Rattle.services.specs.Shows.{ValidFor}
 use Rattle.services.specs.Rows.{Given}
-use Rattle.services.specs.declared.Answer.TheVariants.{Good, Refused}
 use Rattle.services.specs.declared.Service.{Service}
 use Rattle.demands.specs.Words.{One}
 
@@ -16,7 +15,7 @@ use Rattle.demands.specs.Words.{One}
 -- says so: 43 where the kind and choice have no layout, else the offence (40, 41, 42) of the item behind a front of parts that is good so far.
 -- Octets that are no items get their tag's number before (ServiceNumbers).
 abbrev pub ServiceRows : Type 0
-ServiceRows = (kind choice : ℕ) (o : List ℕ) → Octets o → (ts : List Thing) → Reads o ts → (x : ℕ) → (read_service kind choice o ≡ Refused x) ↔ Given x kind choice ts
+ServiceRows = (kind choice : ℕ) (o : List ℕ) → Octets o → (ts : List Thing) → Reads o ts → (x : ℕ) → (read_service kind choice o ≡ Err x) ↔ Given x kind choice ts
 
 -- ---- items are, for a kind and choice, exactly one thing: a message that keeps the rules (0), or what one row says. The reading is not named here.
 abbrev pub ServiceVerdict : ℕ → ℕ → List Thing → ℕ → Type 0
@@ -27,10 +26,10 @@ ServicesOneRow = (kind choice : ℕ) (ts : List Thing) → Grammar ts → Octets
 
 -- ---- worked out
 abbrev pub Refuses : ℕ → ℕ → List ℕ → ℕ → Type 0
-Refuses kind choice o x = read_service kind choice o ≡ Refused x
+Refuses kind choice o x = read_service kind choice o ≡ Err x
 
 abbrev pub Accepts : ℕ → ℕ → List ℕ → Type 0
-Accepts kind choice o = (v : Service) × (read_service kind choice o ≡ Good v)
+Accepts kind choice o = (v : Service) × (read_service kind choice o ≡ Ok v)
 
 -- analog input 5, property 85, index 3; an empty value
 abbrev pub object : List ℕ

@@ -1,7 +1,6 @@
 -- The six services worked out, read and written: octets by hand from document 01's layouts, every field spelled, no two fields of a service with one value.
-use Rattle.std.specs.Prelude.{ℕ, ◌≡◌, true, false, List, [], ◌∷◌, ◌++◌}
+use Rattle.std.specs.Prelude.{ℕ, ◌≡◌, true, false, List, [], ◌∷◌, ◌++◌, Ok}
 use Rattle.services.specs.Reading.{read_service}
-use Rattle.services.specs.declared.Answer.TheVariants.{Good}
 use Rattle.services.specs.declared.Service.{Service}
 use Rattle.services.specs.declared.Service.TheVariants.{ReadProperty, ReadPropertyAck, WriteProperty, WhoIs, IAm, Error}
 use Rattle.services.specs.declared.Target.{Target}
@@ -10,7 +9,7 @@ use Rattle.service_writer.specs.Fault.{fault_of}
 
 -- octets are read, for a kind of PDU and a choice, as this service, and written of it with these octets as its value
 pub record BothWays (kind choice : ℕ) (o : List ℕ) (v : Service) (value : List ℕ) : Type 0 where
-  pub read : read_service kind choice o ≡ Good v
+  pub read : read_service kind choice o ≡ Ok v
   pub fine : fault_of v value ≡ 0
   pub written : octets_of v value ≡ o
 

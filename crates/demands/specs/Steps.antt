@@ -13,7 +13,7 @@ use Rattle.reader.specs.Reading.{step_of}
 use Rattle.reader.specs.Stands.{ItemStands, GroupStands, ClosingStands}
 use Rattle.reader.specs.Rows.{Row}
 use Rattle.reader.specs.Walking.{Walk, outermost, Onward}
-use Rattle.reader.specs.declared.Step.TheVariants as Step
+use Rattle.reader.specs.Answers.{Step}
 
 -- "an opened group holds items, which may be groups, up to its own closing number": of at most 16,384 octets one item is read at a place, with these records and
 -- this end, exactly when one whole item stands there that keeps the grammar, and these are its records and its end

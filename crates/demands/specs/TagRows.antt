@@ -6,8 +6,8 @@ use Rattle.tags.specs.Types.{longest, least, most}
 use Rattle.tags.specs.Reading.{head_at}
 use Rattle.tags.specs.Layout as Tags
 use Rattle.tags.specs.Rows.{Given}
-use Rattle.tags.specs.declared.Tag.{Tag}
-use Rattle.tags.specs.declared.Tag.TheVariants.{Item, Opening, Closing, Refused}
+use Rattle.tags.specs.Head.{Tag}
+use Rattle.tags.specs.Head.Tag.{Item, Opening, Closing, Refused}
 use Rattle.demands.specs.Words.{One}
 
 -- ---- "No. | Given exactly when": the tag at a place is refused with a number exactly when the row of that number says so. The rows of a tag are

@@ -1,12 +1,11 @@
 -- The words in which the demands are said: one answer, the numbers of a call, what 59 names, what a call changes.
-use Rattle.std.specs.Prelude.{ℕ, ◌+◌, ◌*◌, ◌%◌, ◌≤◌, ◌<◌, ◌≡◌, ◌↔◌, ◌⊎◌, Bool, true, false, List, ◌++◌, length, drop, set, replicate}
+use Rattle.std.specs.Prelude.{ℕ, ◌+◌, ◌*◌, ◌%◌, ◌≤◌, ◌<◌, ◌≡◌, ◌↔◌, ◌⊎◌, Bool, true, false, List, ◌++◌, length, drop, set, replicate, Ok, Err}
 use Rattle.std.proofs.Math.Option.{Option, none, some}
 use Rattle.octets.specs.Choice.{pick, given}
 use Rattle.octets.specs.Splice.{splice}
-use Rattle.octets.specs.declared.Written.{Written}
-use Rattle.octets.specs.declared.Written.TheVariants.{Wrote, Refused}
+use Rattle.octets.specs.Laid.{Written}
 use Rattle.frames.specs.Step.{most, length_of}
-use Rattle.frames.specs.declared.Fed as Receiver
+use Rattle.frames.specs.Answers as Receiver
 use Rattle.frames.specs.declared.Phase.TheVariants.{Header, Data}
 use Rattle.frames.specs.declared.Receiver.{Receiver}
 use Rattle.npdu.specs.Address.{AddressFits}
@@ -27,7 +26,6 @@ use Rattle.items.specs.Listing.{ReadAs}
 use Rattle.services.specs.Parts.{any_number}
 use Rattle.services.specs.Reading.{read_service}
 use Rattle.services.specs.Shows.{message_of, Shows}
-use Rattle.services.specs.declared.Answer.TheVariants.{Good}
 use Rattle.services.specs.declared.Service.{Service}
 use Rattle.services.specs.declared.Service.TheVariants.{ReadProperty, ReadPropertyAck, WriteProperty, WhoIs, IAm, Error}
 use Rattle.services.specs.declared.Target.{Target}
@@ -36,8 +34,8 @@ use Rattle.reports.specs.Layout.{report_size}
 use Rattle.collector.specs.Calls.{slots_of}
 use Rattle.collector.specs.Frame.{segment_at, plain_at, answered_at}
 use Rattle.collector.specs.declared.Collector.{Collector}
-use Rattle.collector.specs.declared.Fed.{Fed}
-use Rattle.collector.specs.declared.Fell.{Fell}
+use Rattle.collector.specs.Answers.{Fed}
+use Rattle.collector.specs.Answers.{Fell}
 
 -- ---- "any two answers it allows are shown equal": an answer with all that a call leaves in what it was lent. There is one that the promise P allows,
 -- so that it asks nothing impossible, and no other.
@@ -94,9 +92,9 @@ pub record Four (c : Collector) : Type 0 where
 -- ---- what a writer does: f is the number that its fields deserve, 0 for none, and o its result. "61 last"; "Nothing changes unless said, and
 -- nothing past a result is written."
 pub record WritesBy (f : ℕ) (o area : List ℕ) (r : Written) (later : List ℕ) : Type 0 where
-  pub faulty : (f ≡ 0 → ⊥) → (r ≡ Refused f) × (later ≡ area)
-  pub short : f ≡ 0 → length area < length o → (r ≡ Refused 61) × (later ≡ area)
-  pub fine : f ≡ 0 → length o ≤ length area → (r ≡ Wrote (length o)) × (later ≡ o ++ drop (length o) area)
+  pub faulty : (f ≡ 0 → ⊥) → (r ≡ Err f) × (later ≡ area)
+  pub short : f ≡ 0 → length area < length o → (r ≡ Err 61) × (later ≡ area)
+  pub fine : f ≡ 0 → length o ≤ length area → (r ≡ Ok (length o)) × (later ≡ o ++ drop (length o) area)
 
 -- ---- listing items in an area: n, the page's number of its answer, and the count that comes with it. "one operation that answers the item count and writes
 -- records if they fit. If they do not, it answers 61 with the count needed ..; tag refusals still come first"
@@ -189,7 +187,7 @@ KeptService (Error f) = (f.class ≤ any_number) × (f.code ≤ any_number)
 
 -- ---- octets o, written of a service v with a value's octets, read back: they are accepted for its kind and choice, as a service that is written as the same octets
 abbrev pub AcceptedBack : Service → List ℕ → Type 0
-AcceptedBack v o = (w : Service) × (read_service (kind_of v) (choice_of v) o ≡ Good w) × (octets_of w (value_in o w) ≡ o)
+AcceptedBack v o = (w : Service) × (read_service (kind_of v) (choice_of v) o ≡ Ok w) × (octets_of w (value_in o w) ≡ o)
 
 -- and where the value is whole items by itself, they are the message that was written, absent parts shown as 0
 abbrev pub WholeBack : Service → List ℕ → List ℕ → Type 0

@@ -1,8 +1,7 @@
 -- The number that the service writer gives, each "given exactly when", by cases over the six services with the page's own numbers.
-use Rattle.std.specs.Prelude.{ℕ, ◌<◌, ◌≡◌, ◌↔◌, ◌⊎◌, List}
+use Rattle.std.specs.Prelude.{ℕ, ◌<◌, ◌≡◌, ◌↔◌, ◌⊎◌, List, Ok, Err}
 use Rattle.services.specs.Reading.{read_service}
-use Rattle.services.specs.declared.Answer.{Answer}
-use Rattle.services.specs.declared.Answer.TheVariants.{Good, Refused}
+use Rattle.services.specs.Parts.{Answer}
 use Rattle.services.specs.declared.Service.{Service}
 use Rattle.services.specs.declared.Service.TheVariants.{ReadProperty, ReadPropertyAck, WriteProperty, WhoIs, IAm, Error}
 use Rattle.services.specs.declared.Target.{Target}
@@ -24,7 +23,7 @@ TooWide (Error f) = ⊥
 
 -- the number that a reading gives: its refusal's, 0 where it accepts
 abbrev pub Gives : Answer → ℕ → Type 0
-Gives a x = (a ≡ Refused x) ⊎ ((x ≡ 0) × ((v : Service) × (a ≡ Good v)))
+Gives a x = (a ≡ Err x) ⊎ ((x ≡ 0) × ((v : Service) × (a ≡ Ok v)))
 
 -- octets read as the service that they were written for: "ReadProperty 12, request", "Its ack", "WriteProperty 15", "Who-Is 8", "I-Am 0", "Error for 12 or 15"
 abbrev pub ReadingGives : Service → List ℕ → ℕ → Type 0

@@ -4,10 +4,12 @@ use native.Mathlib.Omega.{arith}
 use mathlib.Core.Path.{◌≡◌, refl, sym, ap, ◌∙◌}
 use mathlib.Core.Bool.{true}
 use mathlib.Core.List.{List}
-use lib.Dec.{lit<}
+use lib.Dec.{eqb, lit<}
+use mir.Val.{bool_byte}
 use lib.ListN.{length, drop, set, length-set}
 use lib.Seq.{set-get_or}
-use borrow.Author.Tests.{eq-eqb, ne_eqb, lt-ltb, le-ltb}
+use borrow.Author.Tests.{eqb-true, eqb-false, eq-eqb, ne_eqb, lt-ltb, le-ltb}
+use Rattle.octets.specs.Choice.{by_test}
 use Rattle.octets.specs.Reading.{oct}
 use Rattle.sums.specs.Sums.{header_start, header_left, header_run, header_step}
 use Rattle.frames.specs.declared.Phase.{Phase}
@@ -105,17 +107,16 @@ module _ (o piece : List ℕ) where
     near_more x l h e =
         record { same = k.same; kept = k.kept; low = l; high_none = k.high_none; low_none = k.low_none; long = k.long; within = omega arith; on = e }
 
-    pub seek_near : i < length piece → oct piece i ≡ 0x55 → Seeking o piece o' 1 (i + 1)
+    seek_near : i < length piece → oct piece i ≡ 0x55 → Seeking o piece o' 1 (i + 1)
     seek_near h e = near_more 1 (lit< tt) h (near_on 1 h (step_near (head_at o) (oct o 8) (store_part o) near (oct piece i) k.low e))
 
     seek_away : i < length piece → (oct piece i ≡ 0x55 → ⊥) → (near ≡ 1 → oct piece i ≡ 0xFF → ⊥) → Seeking o piece o' 0 (i + 1)
     seek_away h n m = near_more 0 (lit< tt) h (near_on 0 h (step_away (head_at o) (oct o 8) (store_part o) near (oct piece i) k.low n m))
 
-    pub seek_other : i < length piece → (oct piece i ≡ 0x55 → ⊥) → (oct piece i ≡ 0xFF → ⊥) → Seeking o piece o' 0 (i + 1)
-    seek_other h n m = seek_away h n (λ e. m)
-
-    pub seek_far : i < length piece → (oct piece i ≡ 0x55 → ⊥) → (near ≡ 1 → ⊥) → Seeking o piece o' 0 (i + 1)
-    seek_far h n m = seek_away h n (λ e f. m e)
+    -- the octet leads to no header
+    pub seek_next : {x : ℕ} → i < length piece → x ≡ bool_byte (eqb (oct piece i) 0x55) → (near ≡ 1 → oct piece i ≡ 0xFF → ⊥) → Seeking o piece o' x (i + 1)
+    seek_next h e m =
+        rw e (by_test (eqb (oct piece i) 0x55) (λ t. rw t (seek_near h (eqb-true _ _ t))) (λ t. rw t (seek_away h (eqb-false _ _ t) m)))
 
     pub seek_found : i < length piece → near ≡ 1 → oct piece i ≡ 0xFF → Sought o piece (i + 1) (set o' 0 2)
     seek_found h e f =

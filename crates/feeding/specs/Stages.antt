@@ -4,7 +4,7 @@ use Rattle.octets.specs.Reading.{oct, be16}
 use Rattle.frames.specs.declared.Outcome.{Outcome}
 use Rattle.frames.specs.declared.Outcome.TheVariants.{Quiet}
 use Rattle.frames.specs.declared.Receiver.{Receiver}
-use Rattle.frames.specs.declared.Fed.{Fed}
+use Rattle.frames.specs.Answers.{Fed}
 use Rattle.frames.specs.Step as Frames
 use Rattle.frames.specs.Step.{step_of, reports_of, sound_of, fed_at, feed_from, feed_of}
 use Rattle.feeding.specs.declared.Ate.{Ate}

@@ -11,6 +11,8 @@ ghost use Rattle.feeding.specs.Stages.{phase_octet, got_at, length_at, Ready, So
 use frames::Outcome;
 use state::STORE;
 
+// Stays: (d) `Ready area.old` is asked by each stage: what a stage lays breaks it until its end, where `Leaves` gives it back with all that stands behind, so a type that keeps it says no less.
+
 // The octets eaten, and what the last of them ended.
 #[derive(Clone, Copy)]
 pub struct Ate {
@@ -37,24 +39,15 @@ fn seek(area: &mut [u8], piece: &[u8]) -> usize
     if 1 < near {
         return 0;
     }
-    let mut i = 0;
-    while i < piece.len() {
-        let b = piece[i];
-        i += 1;
-        if b == 0x55 {
-            near = 1;
-        } else {
-            if near == 1 {
-                if b == 0xFF {
-                    area[0] = 2;
-                    return i;
-                }
-            }
-            near = 0;
+    for (i, b) in piece.iter().enumerate() {
+        if near == 1 && *b == 0xFF {
+            area[0] = 2;
+            return i + 1;
         }
+        near = u8::from(*b == 0x55);
     }
     area[0] = near;
-    i
+    piece.len()
 }
 
 // The header's five octets, as far as they are there; the place behind them.
@@ -63,19 +56,16 @@ fn lay_head(area: &mut [u8], piece: &[u8], from: usize) -> usize
     ensures { HeadLaid area.old piece.now from result area.new }
 {
     let mut got = area[2];
-    let mut i = from;
-    while i < piece.len() {
+    for i in from..piece.len() {
         if 5 <= got {
             area[2] = got;
             return i;
         }
-        let at = 3 + (got as usize);
-        area[at] = piece[i];
+        area[3 + usize::from(got)] = piece[i];
         got += 1;
-        i += 1;
     }
     area[2] = got;
-    i
+    piece.len()
 }
 
 // The header's check octet b: damage 1, damage 2, a frame without data, or nothing and the data follow.
@@ -112,10 +102,9 @@ fn eat_head(area: &mut [u8], piece: &[u8], from: usize) -> Ate
     if i == piece.len() {
         return quiet(i);
     }
-    let ended = end_head(area, piece[i]);
     Ate {
         eaten: i + 1,
-        outcome: ended,
+        outcome: end_head(area, piece[i]),
     }
 }
 
@@ -124,8 +113,9 @@ fn set_got(area: &mut [u8], got: u16)
     requires { length area.old ≡ state_size }
     ensures { area.new ≡ splice area.old 1 (got / 256 ∷ got % 256 ∷ []) }
 {
-    area[1] = (got / 256) as u8;
-    area[2] = (got % 256) as u8;
+    let [high, low] = got.to_be_bytes();
+    area[1] = high;
+    area[2] = low;
 }
 
 // One data octet, the only one that is there.
@@ -133,8 +123,7 @@ fn lay_one(area: &mut [u8], got: u16, b: u8)
     requires { (length area.old ≡ state_size) × (got < 501) }
     ensures { area.new ≡ splice (splice area.old (store_place + got) (b ∷ [])) 1 ((got + 1) / 256 ∷ (got + 1) % 256 ∷ []) }
 {
-    let at = STORE + (got as usize);
-    area[at] = b;
+    area[STORE + usize::from(got)] = b;
     set_got(area, got + 1);
 }
 
@@ -143,8 +132,7 @@ fn lay_run(area: &mut [u8], got: u16, run: &[u8])
     requires { (length area.old ≡ state_size) × (got + length run.now ≤ 501) }
     ensures { area.new ≡ splice (splice area.old (store_place + got) run.now) 1 ((got + length run.now) / 256 ∷ (got + length run.now) % 256 ∷ []) }
 {
-    let at = STORE + (got as usize);
-    octets::copy(run, area, at);
+    octets::copy(run, area, STORE + usize::from(got));
     set_got(area, got + (run.len() as u16));
 }
 
@@ -152,10 +140,7 @@ fn lay_run(area: &mut [u8], got: u16, run: &[u8])
 fn least(a: usize, b: usize) -> usize
     ensures { result ≡ pick (ltb a b) a b }
 {
-    if a < b {
-        return a;
-    }
-    b
+    if a < b { a } else { b }
 }
 
 // The data octets that are there and wanted, laid by one run; the place behind them.
@@ -173,7 +158,7 @@ fn lay_data(area: &mut [u8], piece: &[u8], from: usize) -> usize
         lay_one(area, got, piece[from]);
         return from + 1;
     }
-    let to = from + least(there, (n - got) as usize);
+    let to = from + least(there, usize::from(n - got));
     lay_run(area, got, &piece[from..to]);
     to
 }
@@ -201,7 +186,7 @@ fn end_data(area: &mut [u8], b: u8) -> Outcome
     requires { Ready area.old × ((phase_octet area.old ≡ 3) × (got_at area.old ≡ length_at area.old + 1)) }
     ensures { DataEnds area.old b result area.new }
 {
-    let end = STORE + (octets::pair(area[6], area[7]) as usize);
+    let end = STORE + usize::from(octets::pair(area[6], area[7]));
     let reg = sums::data_run(0xFFFF, &area[STORE..end]);
     let left = sums::data_step(sums::data_step(reg, area[8]), b);
     area[0] = 0;
@@ -223,10 +208,9 @@ fn eat_data(area: &mut [u8], piece: &[u8], from: usize) -> Ate
     if j == piece.len() {
         return quiet(j);
     }
-    let ended = end_data(area, piece[j]);
     Ate {
         eaten: j + 1,
-        outcome: ended,
+        outcome: end_data(area, piece[j]),
     }
 }
 

@@ -1,7 +1,6 @@
 -- What the frame writer promises.
 use Rattle.std.specs.Prelude.{ℕ, List}
-use Rattle.octets.specs.Laid.{Laid}
-use Rattle.octets.specs.declared.Written.{Written}
+use Rattle.octets.specs.Laid.{Written, Laid}
 use Rattle.frames.specs.Layout.{frame_octets}
 use Rattle.frame_writer.specs.Fault.{fault_of}
 

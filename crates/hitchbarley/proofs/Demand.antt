@@ -27,8 +27,8 @@ use Rattle.collector.specs.Frame.{bacnet}
 use Rattle.collector.specs.Offering as Collecting
 use Rattle.collector.specs.Offering.{Passes, BoxEnd, End, in_edition, told, WithArea}
 use Rattle.collector.specs.declared.Collector.{Collector}
-use Rattle.collector.specs.declared.Fed.{Fed}
-use Rattle.collector.specs.declared.Fell.{Fell}
+use Rattle.collector.specs.Answers.{Fed}
+use Rattle.collector.specs.Answers.{Fell}
 use Rattle.collector.proofs.Alike.{Boxed, seen, SeenIn, called, called_by}
 use Rattle.collector.proofs.Demand.{demand3}
 use Rattle.records.specs.Flag.{flag}

@@ -1,4 +1,5 @@
 -- How feeding where the octets stand comes to what it promises: what judging says of the state area, then one law for each outcome of the piece.
+use Rattle.std.specs.Prelude.{Result, Ok, Err, Option, Some, None}
 use Prim.Native.Nat.{ℕ, zero, suc, ◌+◌, ◌-◌, ◌≤◌}
 use mathlib.Core.Path.{◌≡◌, refl, sym, ap, subst, ◌∙◌}
 use mathlib.Core.Bool.{Bool, true, false, not}
@@ -11,14 +12,18 @@ use native.Mathlib.Omega.{arith}
 use borrow.Author.Tests.{eqb-true}
 use Rattle.octets.specs.Choice.{pick, both, both_true, both_left, pick_so, by_test, not_so}
 use Rattle.octets.specs.Reading.{oct, Octets}
+use Rattle.octets.specs.Refusal.{number_of, fault_of}
+use Rattle.octets.specs.declared.refusal.Refusal.{Refusal}
+use Rattle.octets.specs.declared.refusal.Refusal.TheVariants.{UnfitState}
 use Rattle.apdu.specs.declared.Edition.{Edition}
 use Rattle.frames.specs.declared.Outcome.TheVariants.{Quiet, Frame, Damage}
 use Rattle.frames.specs.declared.Ran.{Ran}
+use Rattle.frames.specs.Answers as Links
 use Rattle.frames.specs.Step as Frames
 use Rattle.frames.specs.Step.{length_of, sound_of, feed_of}
 use Rattle.rebuild.specs.View.{view}
 use Rattle.rebuild.specs.declared.Slots.{Slots}
-use Rattle.rebuild.specs.declared.Taken.{Taken}
+use Rattle.rebuild.specs.Calls.{Taken}
 use Rattle.reports.specs.Layout.{report_size, report_octets}
 use Rattle.collector.specs.Heard.{heard_of}
 use Rattle.collector.specs.Frame.{Content, content_of, step_report, damage_octets}
@@ -31,20 +36,20 @@ use Rattle.collector.specs.declared.heard.Heard.{Heard}
 use Rattle.collector.specs.declared.heard.Told.{Told}
 use Rattle.collector.proofs.Actions.{lent_seated, takes_acted}
 use Rattle.collector.proofs.Answers.{data_fits, payload_fits}
-use Rattle.collector.proofs.Eaten.{eats_slots, eats_quiet, eats_damage, eats_carried}
+use Rattle.collector.proofs.Eaten.{eats_slots, eats_left, eats_quiet, eats_damage, eats_carried}
 use Rattle.collector.proofs.Hearing.{heard_line, heard_inside, heard_alone}
 use Rattle.state.specs.Link.{link_of}
 use Rattle.state.specs.Edition.{edition_of}
 use Rattle.state.specs.Layout.{state_size, link_part, store_part, edition_at}
 use Rattle.state.specs.Calls.{state_good, state_at, load_of, lift_of, fair_of, judge_of, LaysSlots}
-use Rattle.state.specs.declared.Lifted.{Lifted}
+use Rattle.state.specs.Calls.{Lifted}
 use Rattle.state.proofs.Exact.{lifts_good}
 use Rattle.state.proofs.Places.{Holds, holds_at, receiver_over, slots_over}
 use Rattle.feeding.specs.declared.Ate.{Ate}
 use Rattle.feeding.specs.Stages.{Ready, EatsAt}
 use Rattle.hitchbarley.specs.Feeding.{Judged, head_of, data_of, Framed, FrameActs, Heeded, SegmentActs}
 use Rattle.hitchbarley.specs.Trunk.{Feeds}
-use Rattle.hitchbarley.proofs.Passed.{lifted_holds, feeds_not, feeds_on}
+use Rattle.hitchbarley.proofs.Passed.{refused_some, lifted_holds, feeds_not, feeds_on}
 
 -- ---- what judging says of the octets that it passes
 module _ (o : List ℕ) (e : judge_of o ≡ 0) where
@@ -98,8 +103,7 @@ module _ (state : List ℕ) (os : Octets state) (size : length state ≡ state_s
     unfolding feed_of state_at
     fed_link_not t f =
         feeds_on state report area piece k m w lifted refl
-        (eats_quiet w.edition w.link w.slots (store_part state) report area piece k m refl (ap not t)
-        (record { refused = 59; eaten = 0; outcome = Quiet; link = w.link }) (store_part state) (rw f) refl) refl held
+        (eats_left w.edition w.link w.slots (store_part state) report area piece k m refl (ap not t) (store_part state) (Err UnfitState) (rw f refl) refl) refl held
 
     fed_unfair : fair_of state ≡ false → Unfed
     unfolding fair_of
@@ -124,6 +128,10 @@ module _ (state report area piece : List ℕ) (os : Octets state) (k : length re
       (λ g. let z : n ≡ 59 = rw (t, g) at e in rw z (barred_as 59 (rw (t, g)) (λ y. omega arith))))
       (λ t. let z : n ≡ 60 = rw t at e in rw z (barred_as 60 (rw t) (λ y. omega arith)))
 
+  -- the code's judgement
+  pub fed_refused : {A : Type 0} {x : Result A Refusal} {r : Refusal} {n : ℕ} → fault_of x ≡ judge_of state → x ≡ Err r → n ≡ number_of r → Feeds state report area piece n 0 0 state report area
+  fed_refused {r = r} j q z = fed_not (z ∙ rw q at j) (refused_some r z)
+
 -- ---- a judged state area
 module _ (state report area piece : List ℕ) (os : Octets state) (j : Judged state report area) where
   size : length state ≡ state_size
@@ -144,9 +152,9 @@ module _ (state report area piece : List ℕ) (os : Octets state) (j : Judged st
   -- the piece eaten there: the link's own answer
   module _ {r : Ate} {o : List ℕ} (y : EatsAt state piece r o) (os' : Octets o) where
     abbrev f : Ran
-    f = record { refused = 0; eaten = r.eaten; outcome = r.outcome; link = link_of (link_part o) }
+    f = record { eaten = r.eaten; outcome = r.outcome; link = link_of (link_part o) }
 
-    answered : Frames.fed_over f (store_part o) ≡ feed_of (Frames.over w'.link (store_part state)) piece
+    answered : Links.fed_over w'.link (Ok f) (store_part o) ≡ feed_of (Frames.over w'.link (store_part state)) piece
     answered = y.fed
 
     held' : Holds o (over w'.edition f.link w'.slots (store_part o))
@@ -162,12 +170,12 @@ module _ (state report area piece : List ℕ) (os : Octets state) (j : Judged st
     pub fed_quiet : r.outcome ≡ Quiet → Feeds state report area piece 0 r.eaten 0 o report area
     fed_quiet q =
         feeds_on state report area piece j.line j.sized w' (lifted state os size good) refl
-        (eats_quiet w'.edition w'.link w'.slots (store_part state) report area piece j.line j.sized refl fair f (store_part o) answered q) refl held'
+        (eats_quiet w'.edition w'.link w'.slots (store_part state) report area piece j.line j.sized refl fair (store_part o) (Ok f) answered refl q) refl held'
 
     pub fed_damage : {d : ℕ} {report' : List ℕ} → r.outcome ≡ Damage d → report' ≡ damage_octets d → Feeds state report area piece 0 r.eaten 1 o report' area
     fed_damage q h =
         feeds_on state report area piece j.line j.sized w' (lifted state os size good) refl
-        (eats_damage w'.edition w'.link w'.slots (store_part state) report area piece j.line j.sized refl fair f (store_part o) answered q h) refl held'
+        (eats_damage w'.edition w'.link w'.slots (store_part state) report area piece j.line j.sized refl fair (store_part o) (Ok f) answered refl q h) refl held'
 
     -- a good frame stands there
     pub framed : r.outcome ≡ Frame → Framed o report area
@@ -182,7 +190,7 @@ module _ (state report area piece : List ℕ) (os : Octets state) (j : Judged st
     fed_frame q {o'} {report'} {area'} x =
         let a = rw (same_edition, same_slots) at x.acted in
         feeds_on state report area piece j.line j.sized w' (lifted state os size good) refl
-        (eats_carried w'.edition w'.link w'.slots (store_part state) report area piece j.line j.sized refl fair f (store_part o) answered x.slots q refl a) refl
+        (eats_carried w'.edition w'.link w'.slots (store_part state) report area piece j.line j.sized refl fair (store_part o) (Ok f) answered refl x.slots q refl a) refl
         (⊎_elim (λ s. left_as s) (λ s. slots_over held' s.1) x.after)
       where
         left_as : (x.slots ≡ (state_at o).slots) × (o' ≡ o) → Holds o' (over w'.edition f.link x.slots (store_part o))
@@ -228,29 +236,29 @@ module _ (o report area : List ℕ) (p : Framed o report area) {h : List ℕ} {m
   pub frame_carries : {b c : Bool} → b ≡ carrying (oct h 0) → b ≡ c → Carries c h cut_out
   frame_carries d t = record { carries = sym d ∙ t; short = data_short }
 
-  -- of type 5 or 6, and heard: t is what it told
-  module _ {x : Edition} (d : x ≡ edition_of (edition_at o)) {t : Told} {report' : List ℕ} (y : Hears (heard_of x h) cut_out report t report') where
+  -- of type 5 or 6, and heard: u is what it told
+  module _ {x : Edition} (d : x ≡ edition_of (edition_at o)) {u : Option Told} {report' : List ℕ} (y : Hears (heard_of x h) cut_out report u report') where
     -- it is no segment: the slots are those that were there
-    pub told_whole : t.parts.segment.seg ≡ false → FrameActs o area o report' area
+    pub told_whole : u ≡ None → FrameActs o area o report' area
     told_whole s =
         record { slots = (state_at o).slots; acted = rw (d, e, cut) at (heard_alone (heard_of x h) cut_out report y s (state_at o).slots area); after = inl (refl, refl) }
 
     -- it is a segment, which is heeded
-    module _ (s : t.parts.segment.seg ≡ true) where
+    module _ {t : Told} (s : u ≡ Some t) where
       pub told_part : Heeded o report' area t
       told_part =
           let i = heard_inside (heard_of x h) cut_out report y s in
           let n = cut_long in
           let k : m ≡ length_of (head_of o) = q ∙ ap length_of e in
           record {
-            framed = record { long = p.long; fits = p.fits; lent = record { line = heard_line (heard_of x h) cut_out report y p.lent.line s; fair = p.lent.fair; sized = p.lent.sized } };
+            framed = record { long = p.long; fits = p.fits; lent = record { line = heard_line (heard_of x h) cut_out report y s p.lent.line; fair = p.lent.fair; sized = p.lent.sized } };
             inside = omega arith;
-            segmented = rw cut at (y.part s).segmented;
+            segmented = rw cut at (y.part t s).segmented;
           }
 
       pub told_acts : {o' report'' area' : List ℕ} → SegmentActs o area t o' report'' area' → FrameActs o area o' report'' area'
       told_acts {o'} {report''} {area'} a =
-          let c : content_of (heard_of (edition_of (edition_at o)) (head_of o)) (data_of o) ≡ message t.route t.parts (drop t.at (data_of o)) = rw (d, e, cut) at (y.part s).content in
+          let c : content_of (heard_of (edition_of (edition_at o)) (head_of o)) (data_of o) ≡ message t.route t.parts (drop t.at (data_of o)) = rw (d, e, cut) at (y.part t s).content in
           record {
             slots = a.slots;
             acted = subst (λ (z : Content). Acted (acting (heard_of (edition_of (edition_at o)) (head_of o)) z (view (state_at o).slots) area) a.slots report'' area') (sym c) a.acted;

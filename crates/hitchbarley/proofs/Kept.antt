@@ -10,7 +10,7 @@ use borrow.Author.Tests.{eq-eqb, eqb-true}
 use Rattle.octets.specs.Choice.{pick, pick_case, pick_cases, pick_so, by_test, both_left}
 use Rattle.octets.specs.Reading.{Octets}
 use Rattle.apdu.specs.declared.Edition.{Edition}
-use Rattle.frames.specs.declared.Fell.{Fell}
+use Rattle.frames.specs.Answers.{Fell}
 use Rattle.frames.specs.declared.Receiver.{Receiver}
 use Rattle.frames.specs.Step.{sound_of, feed_of, silence_of, still_of}
 use Rattle.messages.specs.Slots as Messages

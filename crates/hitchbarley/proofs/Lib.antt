@@ -4,7 +4,6 @@ pub mod Stilled
 pub mod Replayed
 pub mod Answered
 pub mod Headers
-pub mod Items
 pub mod Services
 pub mod Writers
 pub mod Trips

@@ -1,12 +1,15 @@
 -- How the calls of a trunk come to what they promise: a refusal before the collector's call, or that call over what the state area holds.
+use Rattle.std.specs.Prelude.{Result, Ok, Err}
 use Prim.Native.Nat.{ℕ}
-use mathlib.Core.Path.{◌≡◌, sym, ap, subst, ◌∙◌}
+use mathlib.Core.Path.{◌≡◌, refl, sym, ap, subst, ◌∙◌}
 use mathlib.Core.Bool.{true}
 use mathlib.Core.List.{List, []}
 use lib.ListN.{length}
 use native.Mathlib.Omega.{arith}
 use borrow.Author.Tests.{eq-eqb, ne_eqb}
 use Rattle.octets.specs.Reading.{Octets}
+use Rattle.octets.specs.Refusal.{number_of, number_some}
+use Rattle.octets.specs.declared.refusal.Refusal.{Refusal}
 use Rattle.apdu.specs.declared.Edition.{Edition}
 use Rattle.frames.specs.declared.Receiver.{Receiver}
 use Rattle.messages.specs.Slots as Messages
@@ -19,14 +22,12 @@ use Rattle.collector.specs.Calls as Calls
 use Rattle.collector.specs.Calls.{fresh_collector, slots_of, feed_refusal, feeding, silence_refusal, stilling}
 use Rattle.collector.specs.Lent.{over, fed_over, Eats, fell_over, Hushes, forgot_over, Frees}
 use Rattle.collector.specs.declared.Collector.{Collector}
-use Rattle.collector.specs.declared.lent.Ate.{Ate}
-use Rattle.collector.specs.declared.lent.Hushed.{Hushed}
-use Rattle.collector.specs.declared.lent.Freed.{Freed}
+use Rattle.collector.specs.Answers.{Ate, Hushed, Freed, freed_of}
 use Rattle.records.specs.Flag.{flag}
 use Rattle.state.specs.Edition.{edition_of}
 use Rattle.state.specs.Layout.{state_size, store_part, state_octets}
-use Rattle.state.specs.Calls.{load_of, lift_of, LaysSlots, Saves}
-use Rattle.state.specs.declared.Lifted.{Lifted}
+use Rattle.state.specs.declared.Lifted as Code
+use Rattle.state.specs.Calls.{Lifted, load_of, lift_of, lifted_of, LaysSlots, Saves}
 use Rattle.state.proofs.Exact.{accepted_size, accepted_store}
 use Rattle.state.proofs.Places.{Holds, accepted_holds, holds_octets, holds_loads, slots_over}
 use Rattle.hitchbarley.specs.Trunk.{Left, barred, state_by, state_of, passed, bar, inside, feed_bar, feed_left, silence_bar, silence_left, forget_number_of, forgotten, forget_left, Feeds, Stills, Forgets}
@@ -38,8 +39,8 @@ whole c d r s g e f =
     rw (← g, ← e, ← t)
 
 -- what is left by equal answers
-pub number_of : {a b : Left} → a ≡ b → b.number ≡ a.number
-number_of e = sym (ap (λ (d : Left). d.number) e)
+pub number_of_lem : {a b : Left} → a ≡ b → b.number ≡ a.number
+number_of_lem e = sym (ap (λ (d : Left). d.number) e)
 
 pub eaten_of : {a b : Left} → a ≡ b → b.eaten ≡ a.eaten
 eaten_of e = sym (ap (λ (d : Left). d.eaten) e)
@@ -73,6 +74,10 @@ pub lifted_size : (state : List ℕ) {w : Lifted} → w ≡ lift_of state → w.
 unfolding lift_of
 lifted_size state e z = accepted_size state (rw e at z)
 
+-- a refusal has a number
+pub refused_some : {n : ℕ} (r : Refusal) → n ≡ number_of r → n ≡ 0 → ⊥
+refused_some r e z = let s = number_some r in omega arith
+
 lifted_number : (state : List ℕ) {w : Lifted} → w ≡ lift_of state → (load_of state).refused ≡ w.refused
 unfolding lift_of
 lifted_number state e = sym (ap (λ (x : Lifted). x.refused) e)
@@ -88,7 +93,7 @@ module _ (state report area piece : List ℕ) where
   feeds_barred n e h =
       let l : feed_left state report area piece ≡ barred n state report area = rw (e, ne_eqb n 0 h) in
       record {
-        number = number_of l;
+        number = number_of_lem l;
         ate = eaten_of l;
         spoke = reported_of l;
         state_after = state_of_lem l;
@@ -96,14 +101,6 @@ module _ (state report area piece : List ℕ) where
         area_after = area_of_lem l;
         again = λ z. absurd (h (sym e ∙ z));
       }
-
-  pub feeds_line : (length report ≡ report_size → ⊥) → Feeds state report area piece 60 0 0 state report area
-  unfolding feed_bar bar
-  feeds_line h = feeds_barred 60 (rw (ne_eqb (length report) report_size h)) (λ z. omega arith)
-
-  pub feeds_area : length report ≡ report_size → (length area ≡ 65536 → ⊥) → Feeds state report area piece 60 0 0 state report area
-  unfolding feed_bar bar
-  feeds_area k h = feeds_barred 60 (rw (eq-eqb (length report) report_size k, ne_eqb (length area) 65536 h)) (λ z. omega arith)
 
   module _ (k : length report ≡ report_size) (m : length area ≡ 65536) (w : Lifted) (e : w ≡ lift_of state) where
     pub sizes : feed_bar state report area ≡ w.refused
@@ -124,7 +121,7 @@ module _ (state report area piece : List ℕ) where
         let v : c ≡ state_of (inside state).edition d = whole c _ d.state d.slots y'.edition y'.receiver y'.slots in
         let h' : Holds state' (state_of (inside state).edition d) = rw (← v, g) h in
         record {
-          number = y'.refused ∙ number_of q;
+          number = y'.refused ∙ number_of_lem q;
           ate = y'.eaten ∙ eaten_of q;
           spoke = ap flag y'.reported ∙ reported_of q;
           state_after = holds_octets h' ∙ state_of_lem q;
@@ -139,11 +136,7 @@ module _ (state report : List ℕ) where
   unfolding silence_left
   stills_barred n e h =
       let l : silence_left state report ≡ barred n state report [] = rw (e, ne_eqb n 0 h) in
-      record { number = number_of l; spoke = reported_of l; state_after = state_of_lem l; report_after = report_of l; again = λ z. absurd (h (sym e ∙ z)) }
-
-  pub stills_line : (length report ≡ report_size → ⊥) → Stills state report 60 0 state report
-  unfolding silence_bar bar
-  stills_line h = stills_barred 60 (rw (ne_eqb (length report) report_size h)) (λ z. omega arith)
+      record { number = number_of_lem l; spoke = reported_of l; state_after = state_of_lem l; report_after = report_of l; again = λ z. absurd (h (sym e ∙ z)) }
 
   module _ (k : length report ≡ report_size) (w : Lifted) (e : w ≡ lift_of state) where
     silence_sizes : silence_bar state report ≡ w.refused
@@ -165,7 +158,7 @@ module _ (state report : List ℕ) where
         let v : c ≡ state_of (inside state).edition d = whole c _ d.state d.slots y'.edition y'.receiver y'.slots in
         let h' : Holds state' (state_of (inside state).edition d) = rw (← v) h in
         record {
-          number = y'.refused ∙ number_of q;
+          number = y'.refused ∙ number_of_lem q;
           spoke = ap flag y'.reported ∙ reported_of q;
           state_after = holds_octets h' ∙ state_of_lem q;
           report_after = y'.report_after ∙ report_of q;
@@ -182,7 +175,7 @@ module _ (state : List ℕ) (i : ℕ) (w : Lifted) (e : w ≡ lift_of state) whe
   unfolding forget_left
   forgets_not h =
       let q : forget_left state i ≡ barred w.refused state [] [] = rw (forget_sizes, ne_eqb w.refused 0 h) in
-      record { number = number_of q; state_after = state_of_lem q; again = λ z. absurd (h (sym forget_sizes ∙ z)) }
+      record { number = number_of_lem q; state_after = state_of_lem q; again = λ z. absurd (h (sym forget_sizes ∙ z)) }
 
   pub forgets_on : w.refused ≡ 0 → {f : Freed} {state' : List ℕ} → Frees w.link w.slots i f → Holds state' (over w.edition w.link f.slots (store_part state))
       → Forgets state i f.number state'
@@ -194,9 +187,23 @@ module _ (state : List ℕ) (i : ℕ) (w : Lifted) (e : w ≡ lift_of state) whe
       let c : Collector = (forgot_over w.edition f w.link s).state in
       let v : c ≡ forgotten (inside state) i = whole c _ _ _ y'.edition y'.receiver y'.slots in
       let h' : Holds state' (forgotten (inside state) i) = rw (← v) h in
-      record { number = y'.number ∙ number_of q; state_after = holds_octets h' ∙ state_of_lem q; again = λ b. holds_loads h' }
+      record { number = y'.number ∙ number_of_lem q; state_after = holds_octets h' ∙ state_of_lem q; again = λ b. holds_loads h' }
 
-  -- with the slots laid back
-  pub forgets_laid : Octets state → w.refused ≡ 0 → {f : Freed} {r : ℕ} {state' : List ℕ} → Frees w.link w.slots i f
-      → LaysSlots f.slots state r state' → Forgets state i f.number state'
-  forgets_laid os z y d = forgets_on z y (slots_over (lifted_holds state os e z) d)
+-- what lifting gave, and then forgetting: refused, or with the slots laid back
+module _ (state : List ℕ) (i : ℕ) (os : Octets state) {x : Result Code.Lifted Refusal} (e : lifted_of x ≡ lift_of state) where
+  pub forgets_refused : {r : Refusal} {n : ℕ} → x ≡ Err r → n ≡ number_of r → Forgets state i n state
+  forgets_refused {r} q z = rw z (forgets_not state i (lifted_of (Err r)) (rw q at e) (refused_some r refl))
+
+  module _ {o : Code.Lifted} (q : x ≡ Ok o) where
+    abbrev w : Lifted
+    w = lifted_of (Ok o)
+
+    is : w ≡ lift_of state
+    is = rw q at e
+
+    module _ {y : Result Slots Refusal} (h : Frees o.link o.slots i (freed_of o.slots y)) where
+      pub forgets_stayed : {r : Refusal} {n : ℕ} → y ≡ Err r → n ≡ number_of r → Forgets state i n state
+      forgets_stayed p z = rw z (forgets_on state i w is refl (rw p at h) (lifted_holds state os is refl))
+
+      pub forgets_laid : {t : Slots} {r : ℕ} {state' : List ℕ} → y ≡ Ok t → LaysSlots t state r state' → Forgets state i 0 state'
+      forgets_laid p d = forgets_on state i w is refl (rw p at h) (slots_over (lifted_holds state os is refl) d)

@@ -1,30 +1,28 @@
--- The service calls: what a record deserves, and what a reading fills in.
+-- The service calls: what a record deserves, and a service written.
 use Prim.Native.Nat.{ℕ, ◌≤◌, ◌<◌}
-use native.Mathlib.Omega.{arith}
-use mathlib.Core.Path.{◌≡◌, refl}
+use mathlib.Core.Path.{◌≡◌}
 use mathlib.Core.List.{List}
 use lib.ListN.{length}
 use borrow.Author.Tests.{ne_eqb, eq-eqb, le-leb, lt-leb}
 use Rattle.octets.specs.Reading.{oct}
+use Rattle.octets.specs.Refusal.{number_of}
+use Rattle.octets.specs.declared.refusal.Refusal.TheVariants.{AreaSize, UnknownChoice}
 use Rattle.octets.specs.Laid.{written_count, Laid}
-use Rattle.octets.specs.declared.Written.{Written}
-use Rattle.services.specs.Reading.{read_service}
-use Rattle.services.specs.declared.Answer.{Answer}
-use Rattle.services.specs.declared.Answer.TheVariants.{Good, Refused}
+use Rattle.octets.specs.Laid.{Written}
 use Rattle.services.specs.declared.Service.{Service}
 use Rattle.service_writer.specs.Layout.{octets_of}
 use Rattle.service_writer.specs.Fault.{fault_of}
-use Rattle.records.specs.Service.{service_record, service_at}
-use Rattle.hitchbarley.specs.Answers.{written_number, Writes, Fills}
-use Rattle.hitchbarley.specs.Services.{service_good, service_number, service_octets, service_fault}
-use Rattle.hitchbarley.proofs.Answered.{writes_not, writes_value, fills_not, fills_good}
+use Rattle.records.specs.Service.{service_at}
+use Rattle.hitchbarley.specs.Answers.{written_number, Writes}
+use Rattle.hitchbarley.specs.Services.{service_fault}
+use Rattle.hitchbarley.proofs.Answered.{writes_value}
 
 module _ (o value : List ℕ) where
-  pub service_other : (length o ≡ 26 → ⊥) → service_fault o value ≡ 60
+  pub service_other : (length o ≡ 26 → ⊥) → service_fault o value ≡ number_of AreaSize
   unfolding service_fault
   service_other h = rw (ne_eqb (length o) 26 h)
 
-  pub service_beyond : length o ≡ 26 → 5 < oct o 0 → service_fault o value ≡ 43
+  pub service_beyond : length o ≡ 26 → 5 < oct o 0 → service_fault o value ≡ number_of UnknownChoice
   unfolding service_fault
   service_beyond k h = rw (eq-eqb (length o) 26 k, lt-leb (oct o 0) 5 h)
 
@@ -32,28 +30,9 @@ module _ (o value : List ℕ) where
   unfolding service_fault
   service_sized k h = rw (eq-eqb (length o) 26 k, le-leb (oct o 0) 5 h)
 
--- ---- the ways through the writing call: a record refused before it is a service, and a service written
-module _ (o value x area : List ℕ) where
-  pub service_writes_other : (length o ≡ 26 → ⊥) → Writes (service_fault o value) x area 60 0 area
-  service_writes_other h = writes_not 60 x area (service_other o value h) (λ z. omega arith)
-
-  pub service_writes_beyond : length o ≡ 26 → 5 < oct o 0 → Writes (service_fault o value) x area 43 0 area
-  service_writes_beyond k h = writes_not 43 x area (service_beyond o value k h) (λ z. omega arith)
-
+-- ---- a service written
 pub service_writes : (o value area later : List ℕ) (r wrote : ℕ) → length o ≡ 26 → oct o 0 ≤ 5 → (v : Service) → v ≡ service_at o → (w : Written)
     → Laid (fault_of v value) (octets_of v value) area w later → (r ≡ written_number w) × (wrote ≡ written_count w)
     → Writes (service_fault o value) (octets_of (service_at o) value) area r wrote later
 service_writes o value area later r wrote k h v e w l a =
     writes_value (λ (x : Service). fault_of x value) (λ (x : Service). octets_of x value) e (service_sized o value k h) l a
-
--- ---- what a reading fills in
-abbrev pub ServiceFills : ℕ → ℕ → List ℕ → List ℕ → ℕ → List ℕ → Type 0
-ServiceFills kind choice s area r later =
-    Fills 26 (service_good (read_service kind choice s)) (service_number (read_service kind choice s)) (service_octets (read_service kind choice s)) area r later
-
-module _ (kind choice : ℕ) (s area : List ℕ) (a : Answer) (e : a ≡ read_service kind choice s) (k : length area ≡ 26) where
-  pub service_not : (x : ℕ) → a ≡ Refused x → ServiceFills kind choice s area x area
-  service_not x d = rw (← e, d) (fills_not 26 _ _ _ area k refl)
-
-  pub service_good_lem : (v : Service) → a ≡ Good v → {later : List ℕ} → later ≡ service_record v → ServiceFills kind choice s area 0 later
-  service_good_lem v d l = rw (← e, d) (fills_good 26 _ _ _ area k refl l)

@@ -7,6 +7,7 @@ use lib.Dec.{eqb, leb}
 use lib.ListN.{length, take, drop}
 use lib.Seq.{take_at}
 use borrow.Author.Tests.{eqb-true}
+use Rattle.std.specs.Prelude.{Ok}
 use Rattle.octets.specs.Choice.{pick, pick_so}
 use Rattle.octets.specs.Has.{has_cut}
 use Rattle.octets.specs.Reading.{Octets, oct}
@@ -14,7 +15,7 @@ use Rattle.npdu.specs.Reading.{read_npdu}
 use Rattle.npdu.specs.Fault as Npdu
 use Rattle.npdu.specs.Exact.{accepted}
 use Rattle.npdu.specs.Layout.{encode, shown}
-use Rattle.npdu.specs.declared.Reading.{Reading}
+use Rattle.npdu.specs.Reading.{Reading}
 use Rattle.npdu.proofs.Exact.{head_sound, reads_shown, reads_written}
 use Rattle.npdu.proofs.Sizes.{fault_none}
 use Rattle.npdu.proofs.Trips.{ruled_fine}
@@ -27,9 +28,7 @@ use Rattle.apdu.specs.Reading.{read_apdu}
 use Rattle.apdu.specs.Fault as Apdu
 use Rattle.apdu.specs.declared.Edition.{Edition}
 use Rattle.apdu.specs.declared.Pdu.{Pdu}
-use Rattle.apdu.specs.declared.Answer.TheVariants.{Good}
 use Rattle.services.specs.Reading.{read_service}
-use Rattle.services.specs.declared.Answer.{Answer}
 use Rattle.services.specs.declared.Service.{Service}
 use Rattle.service_writer.specs.Layout.{octets_of, value_in}
 use Rattle.service_writer.specs.Fault.{fault_of}
@@ -57,7 +56,7 @@ npdu_again s os z =
     let n : (read_npdu s).next ≡ length (encode h) = ap (λ (r : Reading). r.next) (reads_shown s os z) in
     (npdu_sized (npdu_record h) (npdu_size_lem h w.kept) ∙ ap Npdu.fault_of b ∙ ruled_fine h w.ruled, ap encode b ∙ rw n (sym (has_cut s 0 (encode h) w.stands)))
 
-pub apdu_again : (d : Edition) (s : List ℕ) (p : Pdu) → read_apdu d s ≡ Good p → (apdu_fault d (apdu_record p) ≡ 0) × (header (apdu_at (apdu_record p)) ≡ take (params_at p) s)
+pub apdu_again : (d : Edition) (s : List ℕ) (p : Pdu) → read_apdu d s ≡ Ok p → (apdu_fault d (apdu_record p) ≡ 0) × (header (apdu_at (apdu_record p)) ≡ take (params_at p) s)
 apdu_again d s p e =
     let b = read_writes_back d s p e in (
       apdu_sized d (apdu_record p) (apdu_size_lem p) (apdu_type_most p) ∙ ap (Apdu.fault_of d) (apdu_back p) ∙ b.0,
@@ -71,7 +70,7 @@ npdu_reads o t z =
     let p = pick_so (eqb (length o) 29) (Npdu.fault_of (npdu_at o)) 60 0 (λ w. omega arith) z in
     reads_written (npdu_at o) t (fault_none (npdu_at o) p.1) (npdu_kept o (eqb-true (length o) 29 p.0))
 
-pub apdu_reads : (d : Edition) (o t : List ℕ) → apdu_fault d o ≡ 0 → Follows (apdu_at o) t → read_apdu d (header (apdu_at o) ++ t) ≡ Good (Apdu.shown (apdu_at o))
+pub apdu_reads : (d : Edition) (o t : List ℕ) → apdu_fault d o ≡ 0 → Follows (apdu_at o) t → read_apdu d (header (apdu_at o) ++ t) ≡ Ok (Apdu.shown (apdu_at o))
 unfolding apdu_fault
 apdu_reads d o t z f =
     let p = pick_so (eqb (length o) 13) (pick (leb (oct o 0) 7) (Apdu.fault_of d (apdu_at o)) 21) 60 0 (λ w. omega arith) z in
@@ -79,7 +78,7 @@ apdu_reads d o t z f =
     written_reads_back d (apdu_at o) t q.1 f
 
 -- ---- services: what was read and filled in is written, with the value's octets that the record names, as the parameters that were read
-pub service_again : (kind choice : ℕ) (o : List ℕ) → Octets o → (v : Service) → read_service kind choice o ≡ Answer.Good v
+pub service_again : (kind choice : ℕ) (o : List ℕ) → Octets o → (v : Service) → read_service kind choice o ≡ Ok v
     → (service_fault (service_record v) (value_in o v) ≡ 0) × (octets_of (service_at (service_record v)) (value_in o v) ≡ o)
 service_again kind choice o os v e =
     let b = service_read_back o os kind choice v e in

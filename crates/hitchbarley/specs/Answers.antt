@@ -1,14 +1,13 @@
 -- What a call over octets answers: 0 and the numbers that it gives back, or a refusal and 0 for each of them.
-use Rattle.std.specs.Prelude.{ℕ, ◌≡◌, Bool, List, eqb, length}
+use Rattle.std.specs.Prelude.{ℕ, ◌≡◌, Bool, List, eqb, length, Ok, Err}
 use Rattle.octets.specs.Choice.{pick}
 use Rattle.octets.specs.Laid.{written_count, answer_of, area_of}
-use Rattle.octets.specs.declared.Written.{Written}
-use Rattle.octets.specs.declared.Written.TheVariants.{Wrote, Refused}
+use Rattle.octets.specs.Laid.{Written}
 
 -- a writer's answer: its number (the octets written: octets/Laid)
 abbrev pub written_number : Written → ℕ
-written_number (Wrote n) = 0
-written_number (Refused x) = x
+written_number (Ok n) = 0
+written_number (Err x) = x
 
 -- what a writer promises: f is the refusal that the values deserve, 0 for none; o the octets of the result
 pub record Writes (f : ℕ) (o area : List ℕ) (r wrote : ℕ) (later : List ℕ) : Type 0 where

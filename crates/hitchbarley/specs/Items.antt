@@ -3,10 +3,10 @@ use Rattle.std.specs.Prelude.{ℕ, ◌≡◌, Bool, true, false, List, [], lengt
 use Rattle.items.specs.Records.{rec, record_octets}
 use Rattle.items.specs.Reading.{items_of, one_at, end_of}
 use Rattle.items.specs.Listing.{tally_number, tally_count, listed_of, listing}
-use Rattle.items.specs.declared.One.{One}
-use Rattle.items.specs.declared.One.TheVariants.{Next}
-use Rattle.reader.specs.declared.Step.{Step}
-use Rattle.reader.specs.declared.Step.TheVariants.{Item, Group, End}
+use Rattle.items.specs.Answers.{One}
+use Rattle.items.specs.Answers.One.{Next}
+use Rattle.reader.specs.Answers.{Step}
+use Rattle.reader.specs.Answers.Step.{Item, Group, End}
 
 abbrev pub one_number : One → ℕ
 one_number (Next at) = 0

@@ -1,44 +1,46 @@
 // An answer that is an enum, as its number and what it gives back.
 ghost use Rattle.std.specs.Prelude.{◌≡◌};
 ghost use Rattle.items.specs.Listing.{tally_number, tally_count};
+ghost use Rattle.items.specs.Answers.{tally_of};
 ghost use Rattle.octets.specs.Laid.{written_count};
+ghost use Rattle.octets.specs.Refusal.{numbered};
 ghost use Rattle.hitchbarley.specs.Answers.{written_number};
 
-use items::Tally;
-use octets::Written;
+use items::Unlisted;
+use octets::Refusal;
 
 // A writer's.
-pub fn written(w: Written, wrote: &mut usize) -> u8
-    ensures { (result ≡ written_number w) × (wrote.new ≡ written_count w) }
+pub fn written(w: Result<usize, Refusal>, wrote: &mut usize) -> u8
+    ensures { (result ≡ written_number (numbered w)) × (wrote.new ≡ written_count (numbered w)) }
 {
     match w {
-        Written::Wrote(n) => {
+        Ok(n) => {
             *wrote = n;
             0
         }
-        Written::Refused(x) => {
+        Err(r) => {
             *wrote = 0;
-            x
+            r.number()
         }
     }
 }
 
 // Listing's.
-pub fn tallied(t: Tally, count: &mut usize) -> u8
-    ensures { (result ≡ tally_number t) × (count.new ≡ tally_count t) }
+pub fn tallied(t: Result<usize, Unlisted>, count: &mut usize) -> u8
+    ensures { (result ≡ tally_number (tally_of t)) × (count.new ≡ tally_count (tally_of t)) }
 {
     match t {
-        Tally::Items(n) => {
+        Ok(n) => {
             *count = n;
             0
         }
-        Tally::Small(n) => {
+        Err(Unlisted::Small(n)) => {
             *count = n;
-            61
+            Refusal::TooSmall.number()
         }
-        Tally::Refused(x) => {
+        Err(Unlisted::Refused(r)) => {
             *count = 0;
-            x
+            r.number()
         }
     }
 }

@@ -11,7 +11,7 @@ ghost use Rattle.hitchbarley.specs.Answers.{FillsTo, Writes};
 ghost use Rattle.hitchbarley.specs.Headers.{apdu_good, apdu_number, apdu_octets, apdu_params, npdu_fault, apdu_fault};
 
 use crate::answers;
-use apdu::Answer;
+use octets::Refusal;
 
 // The network header at the front of these octets, as a record of 29: 0, 60 or 10 to 14; and the place after it.
 pub fn hb_npdu_read(octets: &[u8], fields: &mut [u8], next: &mut usize) -> u8
@@ -19,17 +19,16 @@ pub fn hb_npdu_read(octets: &[u8], fields: &mut [u8], next: &mut usize) -> u8
 {
     *next = 0;
     if fields.len() != 29 {
-        return 60;
+        return Refusal::AreaSize.number();
     }
-    let a = npdu::read(octets);
-    let n = a.refused;
-    if n != 0 {
-        return n;
+    match npdu::read(octets) {
+        Ok(h) => {
+            records::network::put(h.npdu, fields);
+            *next = h.next;
+            0
+        }
+        Err(r) => r.number(),
     }
-    let h = a.head;
-    records::network::put(h, fields);
-    *next = a.next;
-    0
 }
 
 // The octets of a network header: 0, 60, 12 to 14 or 61; and how many were written.
@@ -38,11 +37,10 @@ pub fn hb_npdu_write(fields: &[u8], out: &mut [u8], wrote: &mut usize) -> u8
 {
     *wrote = 0;
     if fields.len() != 29 {
-        return 60;
+        return Refusal::AreaSize.number();
     }
     let h = records::network::get(fields);
-    let w = npdu::write(h, out);
-    answers::written(w, wrote)
+    answers::written(npdu::write(h, out), wrote)
 }
 
 // The header of an APDU, read by the edition that `later` says, as a record of 13: 0, 60 or 20 to 24; and the place where its parameters begin.
@@ -51,17 +49,15 @@ pub fn hb_apdu_read(octets: &[u8], later: u8, fields: &mut [u8], next: &mut usiz
 {
     *next = 0;
     if fields.len() != 13 {
-        return 60;
+        return Refusal::AreaSize.number();
     }
-    let edition = state::edition_of(later);
-    let a = apdu::read(edition, octets);
-    match a {
-        Answer::Good(p) => {
+    match apdu::read(state::edition_of(later), octets) {
+        Ok(p) => {
             records::application::put(p, fields);
             *next = apdu::fields::params_at(p);
             0
         }
-        Answer::Refused(x) => x,
+        Err(r) => r.number(),
     }
 }
 
@@ -71,13 +67,12 @@ pub fn hb_apdu_write(fields: &[u8], later: u8, out: &mut [u8], wrote: &mut usize
 {
     *wrote = 0;
     if fields.len() != 13 {
-        return 60;
+        return Refusal::AreaSize.number();
     }
     if 7 < fields[0] {
-        return 21;
+        return Refusal::ApduType.number();
     }
     let p = records::application::get(fields);
     let edition = state::edition_of(later);
-    let w = apdu_writer::write(edition, p, out);
-    answers::written(w, wrote)
+    answers::written(apdu_writer::write(edition, p, out), wrote)
 }

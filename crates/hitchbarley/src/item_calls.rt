@@ -7,15 +7,14 @@ ghost use Rattle.hitchbarley.specs.Answers.{Writes, FillsTo};
 ghost use Rattle.hitchbarley.specs.Items.{Lists, Steps, step_good, step_number, step_record, step_place};
 
 use crate::answers;
-use items::One;
+use octets::Refusal;
 use reader::Step;
 
 // The items' records, 12 octets each, and their count: 0, 30 to 39, or 61 with the count needed and nothing written.
 pub fn hb_items_list(octets: &[u8], listed: &mut [u8], count: &mut usize) -> u8
     ensures { Lists octets.now listed.old result count.new listed.new }
 {
-    let t = items::list(octets, listed);
-    answers::tallied(t, count)
+    answers::tallied(items::list(octets, listed), count)
 }
 
 // The place after the item at a place, with its whole group where it opens one: 0 or 30 to 39.
@@ -23,13 +22,13 @@ pub fn hb_item_next(octets: &[u8], at: usize, next: &mut usize) -> u8
     ensures { Steps octets.now at result next.new }
 {
     match items::item_at(octets, at) {
-        One::Next(n) => {
+        Ok(n) => {
             *next = n;
             0
         }
-        One::Refused(x) => {
+        Err(r) => {
             *next = 0;
-            x
+            r.number()
         }
     }
 }
@@ -40,33 +39,36 @@ pub fn hb_item_step(octets: &[u8], at: usize, item: &mut [u8], next: &mut usize)
 {
     *next = 0;
     if item.len() != 12 {
-        return 60;
+        return Refusal::AreaSize.number();
     }
-    let s = reader::step_at(octets, at);
-    match s {
-        Step::Item {
-            kind,
-            number,
-            value,
-            place,
-            len,
-            next: to,
-        } => {
+    match reader::step_at(octets, at) {
+        Ok(
+            Step::Item {
+                kind,
+                number,
+                value,
+                place,
+                len,
+                next: to,
+            },
+        ) => {
             records::item::put(kind, number, value, place, len, item);
             *next = to;
             0
         }
-        Step::Group {
-            number,
-            place,
-            next: to,
-        } => {
+        Ok(
+            Step::Group {
+                number,
+                place,
+                next: to,
+            },
+        ) => {
             records::item::put(2, number, 0, place, 0, item);
             *next = to;
             0
         }
-        Step::End => 0,
-        Step::Refused(x) => x,
+        Ok(Step::End) => 0,
+        Err(r) => r.number(),
     }
 }
 
@@ -74,6 +76,5 @@ pub fn hb_item_step(octets: &[u8], at: usize, item: &mut [u8], next: &mut usize)
 pub fn hb_items_write(listed: &[u8], source: &[u8], out: &mut [u8], wrote: &mut usize) -> u8
     ensures { Writes (write_fault listed.now source.now) (encode_all (things_of source.now (records_in listed.now))) out.old result wrote.new out.new }
 {
-    let w = item_writer::write(listed, source, out);
-    answers::written(w, wrote)
+    answers::written(item_writer::write(listed, source, out), wrote)
 }

@@ -1,7 +1,10 @@
 // Recorded trunks: records of four octets, replayed over the state octets that the caller lends.
 ghost use Rattle.hitchbarley.specs.Replay.{Replays};
 
+use octets::Refusal;
+
 // Eats records through the first that causes a report, else up to a bad one, else all: 0, 60, 59, 68 or 67. With 67 the records before the bad one are eaten.
+#[tactic(auto, unfolding(crate::specs::Replay::replay_left, crate::specs::Trunk::feed_bar, crate::specs::Trunk::bar))]
 pub fn hb_replay(
     state: &mut [u8],
     records: &[u8],
@@ -14,37 +17,28 @@ pub fn hb_replay(
 {
     *eaten = 0;
     *reported = 0;
-    if report.len() != reports::SIZE {
-        return 60;
+    if report.len() != reports::SIZE || area.len() != 65536 {
+        return Refusal::AreaSize.number();
     }
-    if area.len() != 65536 {
-        return 60;
-    }
-    let o = state::lift(state);
-    let n = o.refused;
-    if n != 0 {
-        return n;
-    }
-    let edition = o.edition;
-    let link = o.link;
-    let slots = o.slots;
+    let o = match state::lift(state) {
+        Ok(o) => o,
+        Err(r) => return r.number(),
+    };
     let f = playback::lent::replay(
-        edition,
-        link,
-        slots,
+        o.edition,
+        o.link,
+        o.slots,
         &mut state[state::STORE..state::STORE_END],
         records,
         report,
         area,
     );
-    let link = f.link;
     *eaten = f.eaten;
-    *reported = f.reported as u8;
-    if f.moved {
-        let slots = f.slots;
-        state::lay(link, slots, state);
-        return f.refused;
-    }
-    state::lay_link(link, state);
-    f.refused
+    *reported = u8::from(f.reported);
+    let _ = if f.moved {
+        state::lay(f.link, f.slots, state)
+    } else {
+        state::lay_link(f.link, state)
+    };
+    octets::fault(f.answer)
 }

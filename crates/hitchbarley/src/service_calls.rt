@@ -6,22 +6,21 @@ ghost use Rattle.hitchbarley.specs.Answers.{Fills, Writes};
 ghost use Rattle.hitchbarley.specs.Services.{service_good, service_number, service_octets, service_fault};
 
 use crate::answers;
-use services::Answer;
+use octets::Refusal;
 
 // The parameters of a PDU of this type and choice, as a record of 26: 0, 60, 30 to 39, 43 or 40 to 42.
 pub fn hb_service_read(kind: u8, choice: u8, params: &[u8], fields: &mut [u8]) -> u8
     ensures { Fills 26 (service_good (read_service kind choice params.now)) (service_number (read_service kind choice params.now)) (service_octets (read_service kind choice params.now)) fields.old result fields.new }
 {
     if fields.len() != 26 {
-        return 60;
+        return Refusal::AreaSize.number();
     }
-    let a = services::read(kind, choice, params);
-    match a {
-        Answer::Good(v) => {
+    match services::read(kind, choice, params) {
+        Ok(v) => {
             records::service::put(v, fields);
             0
         }
-        Answer::Refused(x) => x,
+        Err(r) => r.number(),
     }
 }
 
@@ -32,12 +31,11 @@ pub fn hb_service_write(fields: &[u8], value: &[u8], out: &mut [u8], wrote: &mut
 {
     *wrote = 0;
     if fields.len() != 26 {
-        return 60;
+        return Refusal::AreaSize.number();
     }
     if 5 < fields[0] {
-        return 43;
+        return Refusal::UnknownChoice.number();
     }
     let v = records::service::get(fields);
-    let w = service_writer::write(v, value, out);
-    answers::written(w, wrote)
+    answers::written(service_writer::write(v, value, out), wrote)
 }

@@ -8,13 +8,14 @@ ghost use Rattle.hitchbarley.specs.Trunk.{Feeds, Stills, Forgets};
 use collector::heard::Told;
 use collector::{Collector, frame, heard, lent};
 use frames::Outcome;
+use octets::Refusal;
 
 // Makes a fresh state of the edition that `later` says: 0 is 1995, any other number the later one. 0, or 60.
 pub fn hb_fresh(state: &mut [u8], later: u8) -> u8
     ensures { Saves (fresh_collector (edition_of later)) state.old result state.new }
 {
-    let edition = state::edition_of(later);
-    state::save(Collector::fresh(edition), state)
+    let c = Collector::fresh(state::edition_of(later));
+    octets::fault(state::save(c, state))
 }
 
 // A segment, heard in the good frame whose head and data stand in the state area: slots are lifted, and laid back, for it alone.
@@ -23,18 +24,14 @@ fn segment(state: &mut [u8], t: Told, report: &mut [u8], area: &mut [u8])
     ensures { SegmentActs state.old area.old t state.new report.new area.new }
 {
     let head = state::head_at(state);
-    let end = state::STORE + (frames::length_of(head) as usize);
+    let end = state::STORE + usize::from(frames::length_of(head));
     let from = state::STORE + t.at;
     let edition = state::edition_of(state[state::EDITION]);
     let w = heard::heard_of(edition, head);
-    let v = t.route;
-    let m = t.parts;
     let slots = state::slots_at(state);
-    let r = frame::take(w, v, m, &state[from..end], slots, area);
-    let slots = r.slots;
-    state::lay_slots(slots, state);
-    let step = r.answer;
-    frame::put_answer(w, m, step, report, area);
+    let r = frame::take(w, t.route, t.parts, &state[from..end], slots, area);
+    let _ = state::lay_slots(r.slots, state);
+    frame::put_answer(w, t.parts, r.answer, report, area);
 }
 
 // A good frame, whose head and data stand in the state area.
@@ -43,19 +40,15 @@ fn good_frame(state: &mut [u8], report: &mut [u8], area: &mut [u8])
     ensures { FrameActs state.old area.old state.new report.new area.new }
 {
     let head = state::head_at(state);
-    let end = state::STORE + (frames::length_of(head) as usize);
-    if frame::carries(head) {
-        let edition = state::edition_of(state[state::EDITION]);
-        let t = frame::hear(edition, head, &state[state::STORE..end], report);
-        let m = t.parts;
-        let part = m.segment;
-        let seg = part.seg;
-        if seg {
-            segment(state, t, report, area);
-        }
+    let end = state::STORE + usize::from(frames::length_of(head));
+    if !frame::carries(head) {
+        frame::put_other(head, &state[state::STORE..end], report);
         return;
     }
-    frame::put_other(head, &state[state::STORE..end], report);
+    let edition = state::edition_of(state[state::EDITION]);
+    if let Some(t) = frame::hear(edition, head, &state[state::STORE..end], report) {
+        segment(state, t, report, area);
+    }
 }
 
 // A piece eaten where the state's octets stand, in a state that 59 passes.
@@ -72,8 +65,7 @@ fn feed_on(
 {
     let f = feeding::eat(state, piece);
     *eaten = f.eaten;
-    let ended = f.outcome;
-    match ended {
+    match f.outcome {
         Outcome::Quiet => {
             *reported = 0;
         }
@@ -89,6 +81,7 @@ fn feed_on(
 }
 
 // Eats a piece's octets through the first that causes a report, else all: 0, 60 or 59.
+#[tactic(auto, unfolding(crate::specs::Trunk::feed_left, crate::specs::Trunk::feed_bar, crate::specs::Trunk::bar))]
 pub fn hb_feed(
     state: &mut [u8],
     piece: &[u8],
@@ -101,54 +94,52 @@ pub fn hb_feed(
 {
     *eaten = 0;
     *reported = 0;
-    if report.len() != reports::SIZE {
-        return 60;
+    if report.len() != reports::SIZE || area.len() != 65536 {
+        return Refusal::AreaSize.number();
     }
-    if area.len() != 65536 {
-        return 60;
-    }
-    let n = state::judge(state);
-    if n != 0 {
-        return n;
+    if let Err(r) = state::judge(state) {
+        return r.number();
     }
     feed_on(state, piece, report, area, eaten, reported);
     0
 }
 
 // The line fell silent: 0, 60 or 59.
+#[tactic(auto, unfolding(crate::specs::Trunk::silence_left, crate::specs::Trunk::silence_bar, crate::specs::Trunk::bar))]
 pub fn hb_silence(state: &mut [u8], report: &mut [u8], reported: &mut u8) -> u8
     ensures { Stills state.old report.old result reported.new state.new report.new }
 {
     *reported = 0;
     if report.len() != reports::SIZE {
-        return 60;
+        return Refusal::AreaSize.number();
     }
-    let s = state::still(state);
-    let n = s.refused;
-    if n != 0 {
-        return n;
+    let link = match state::still(state) {
+        Ok(link) => link,
+        Err(r) => return r.number(),
+    };
+    match lent::hush(link, report) {
+        Ok(h) => {
+            let _ = state::lay_link(h.link, state);
+            *reported = u8::from(h.reported);
+            0
+        }
+        Err(r) => r.number(),
     }
-    let link = s.link;
-    let f = lent::hush(link, report);
-    let link = f.link;
-    state::lay_link(link, state);
-    *reported = f.reported as u8;
-    f.refused
 }
 
 // Frees a slot: 0, 60, 59 or 56.
 pub fn hb_forget(state: &mut [u8], slot: u8) -> u8
     ensures { Forgets state.old slot result state.new }
 {
-    let o = state::lift(state);
-    let n = o.refused;
-    if n != 0 {
-        return n;
+    let o = match state::lift(state) {
+        Ok(o) => o,
+        Err(r) => return r.number(),
+    };
+    match lent::forget(o.link, o.slots, slot) {
+        Ok(slots) => {
+            let _ = state::lay_slots(slots, state);
+            0
+        }
+        Err(r) => r.number(),
     }
-    let link = o.link;
-    let slots = o.slots;
-    let f = lent::forget(link, slots, slot);
-    let slots = f.slots;
-    state::lay_slots(slots, state);
-    f.number
 }

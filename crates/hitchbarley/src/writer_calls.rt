@@ -8,6 +8,7 @@ ghost use Rattle.hitchbarley.specs.Writers.{message_at, segmented, way_at, Cuts}
 
 use crate::answers;
 use cutter::{Message, Way, WholeAck, WholeRequest};
+use octets::Refusal;
 
 // A frame of this type, destination and source around these data: 0, 64 or 61; and how many octets were written.
 pub fn hb_frame_write(
@@ -25,16 +26,15 @@ pub fn hb_frame_write(
 }
 
 // Whether a PDU of this type has segments.
+#[tactic(auto, unfolding(crate::specs::Writers::segmented))]
 fn segmented(kind: u8) -> bool
     ensures { result ≡ segmented kind }
 {
-    if kind == 0 {
-        return true;
-    }
-    kind == 3
+    kind == 0 || kind == 3
 }
 
 // The message that a record of type 0 or 3 is.
+#[tactic(auto, unfolding(crate::specs::Writers::message_at))]
 fn message(fields: &[u8]) -> Message
     requires { length fields.now ≡ 13 }
     ensures { result ≡ message_at fields.now }
@@ -72,7 +72,7 @@ pub fn hb_cut(
     *wrote = 0;
     *segments = 0;
     if fields.len() != 13 {
-        return 60;
+        return Refusal::AreaSize.number();
     }
     let w = Way {
         reply: 0 < reply,
@@ -80,17 +80,18 @@ pub fn hb_cut(
         window: fields[9],
         each,
     };
-    let f = cutter::front_fault(w, params.len());
-    if f != 0 {
-        return f;
+    if let Err(r) = cutter::judge_front(w, params.len()) {
+        return r.number();
     }
     if !segmented(fields[0]) {
-        return 21;
+        return Refusal::ApduType.number();
     }
-    let m = message(fields);
-    let edition = state::edition_of(later);
-    let c = cutter::cut(edition, m, w, params, out);
-    *segments = c.segments;
-    let a = c.answer;
-    answers::written(a, wrote)
+    match cutter::cut(state::edition_of(later), message(fields), w, params, out) {
+        Ok(e) => {
+            *wrote = e.octets;
+            *segments = e.segments;
+            0
+        }
+        Err(r) => r.number(),
+    }
 }

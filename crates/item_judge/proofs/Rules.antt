@@ -1,15 +1,18 @@
 -- The contents rule of the item reader, judged in the source, is the one that the layout states of the contents.
 use Prim.Native.Nat.{ℕ, ◌+◌, ◌-◌, ◌≤◌, ◌<◌}
 use native.Mathlib.Omega.{arith}
-use mathlib.Core.Path.{◌≡◌, ◌∙◌}
+use mathlib.Core.Path.{◌≡◌, refl, sym, ◌∙◌}
 use mathlib.Core.List.{List, []}
-use mathlib.Core.Bool.{false}
+use mathlib.Core.Bool.{true, false}
 use lib.ListN.{length, take, drop, length-take, length-drop}
 use lib.Dec.{leb, eqb}
 use borrow.Author.Tests.{le-leb, leb-true, leb-false, eqb-true, eqb-false, ne_eqb}
-use Rattle.octets.specs.Choice.{by_test}
+use Rattle.std.specs.Prelude.{Result, Ok, Err, is_ok}
+use Rattle.octets.specs.Choice.{by_test, both_true}
+use Rattle.octets.specs.declared.refusal.Refusal.{Refusal}
+use Rattle.octets.specs.Refusal.{number_of, fault_of, number_some}
 use Rattle.octets.specs.Has.{has_take}
-use Rattle.tags.specs.Types.{least, most}
+use Rattle.tags.specs.Types.{least, most, right_length}
 use Rattle.tags.specs.Reading.{contents_at}
 use Rattle.tags.specs.Layout.{good_contents}
 use Rattle.tags.proofs.Bounds.{contents_in}
@@ -50,3 +53,22 @@ module _ (s : List ℕ) (n p len : ℕ) (low : least n ≤ len) where
   pub type_test : len ≤ most n → eqb (contents_at s p n len) 0 ≡ type_rule s n p len
   unfolding type_rule
   type_test high = rw (le-leb (least n) len low, le-leb len (most n) high) contents_test
+
+-- by the test of both lengths
+pub type_fits : (s : List ℕ) (n p len : ℕ) → right_length n len ≡ true → eqb (contents_at s p n len) 0 ≡ type_rule s n p len
+unfolding right_length
+type_fits s n p len e =
+    let a = both_true (leb (least n) len) (leb len (most n)) e in
+    type_test s n p len (leb-true _ _ a.0) (leb-true _ _ a.1)
+
+pub type_other : (s : List ℕ) (n p len : ℕ) → right_length n len ≡ false → false ≡ type_rule s n p len
+unfolding right_length type_rule
+type_other s n p len e =
+    by_test (leb (least n) len)
+    (λ a. let b : leb len (most n) ≡ false = rw a at e in rw (a, b))
+    (λ a. rw a)
+
+-- an answer is good exactly where it refuses with no number
+pub ok_test : (r : Result Unit Refusal) → is_ok r ≡ eqb (fault_of r) 0
+ok_test (Ok u) = refl
+ok_test (Err x) = sym (ne_eqb (number_of x) 0 (λ e. omega (arith, number_some x)))

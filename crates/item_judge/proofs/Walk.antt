@@ -1,4 +1,5 @@
 -- Judging record after record: what is left to judge decides the whole.
+use Rattle.std.specs.Prelude.{Ok, Err}
 use Prim.Native.Nat.{ℕ, zero, suc, ◌+◌, ◌-◌, ◌/◌, ◌%◌, ◌≤◌, ◌<◌}
 use native.Mathlib.Omega.{arith}
 use native.Mathlib.Nat.{zero-add, add-zero, add_assoc}
@@ -16,7 +17,6 @@ use Rattle.items.specs.Grammar.{encode_all}
 use Rattle.item_judge.specs.Judge.{records_in, good_record, good_from, good_records, write_fault, judged}
 use Rattle.item_judge.specs.Kinds.{kind_rule, groups_after}
 use Rattle.item_judge.specs.OneLayout.{size_of}
-use Rattle.item_judge.specs.declared.Judged.TheVariants.{Takes, Refused}
 use Rattle.item_judge.proofs.Good.{good_record_lem}
 use Rattle.item_judge.proofs.ByKind.{kind_rule_lem}
 use Rattle.item_judge.proofs.Lay.{lay_size, good_short, good_room, good_some, good_after}
@@ -40,22 +40,22 @@ pub judging_start : (area source : List ℕ) → Judging area source [] 0 0 (len
 judging_start area source = record { rest = refl; octets = sym (zero-add _) }
 
 -- what a good record allows
-pub kind_facts : (source groups : List ℕ) (k : Rec) → kind_rule source groups k ≡ true → (k.len ≤ longest) × (k.kind ≡ 2 → length groups < deepest) × (k.kind ≡ 3 → 0 < length groups)
+pub kind_facts : (source groups : List ℕ) (k : Rec) → kind_rule source groups k ≡ true → (k.len ≤ longest) × ((k.kind ≡ 2 → length groups < deepest) × (k.kind ≡ 3 → 0 < length groups))
 kind_facts source groups k e =
     let g = good_record_lem source groups k (kind_rule_lem source groups k ∙ e) in
     let t = thing_of source k in
-    (good_short source groups k t g, good_room source groups k t g, good_some groups k t g)
+    (good_short source groups k t g, (good_room source groups k t g, good_some groups k t g))
 
 -- refused where the test fails, and else the octets
-pub judged_bad : (area source : List ℕ) → good_records source (records_in area) ≡ false → Refused 62 ≡ judged area source
+pub judged_bad : (area source : List ℕ) → good_records source (records_in area) ≡ false → Err 62 ≡ judged area source
 unfolding judged write_fault
-judged_bad area source e = rw e (pick_case (λ (f : ℕ). Refused 62 ≡ pick (eqb f 0) (Takes (length (encode_all (things_of source (records_in area))))) (Refused f)) (eqb (length area % 12) 0) refl refl)
+judged_bad area source e = rw e (pick_case (λ (f : ℕ). Err 62 ≡ pick (eqb f 0) (Ok (length (encode_all (things_of source (records_in area))))) (Err f)) (eqb (length area % 12) 0) refl refl)
 
-pub judged_part : (area source : List ℕ) → (length area % 12 ≡ 0 → ⊥) → Refused 62 ≡ judged area source
+pub judged_part : (area source : List ℕ) → (length area % 12 ≡ 0 → ⊥) → Err 62 ≡ judged area source
 unfolding judged write_fault
 judged_part area source h = rw (ne_eqb _ _ h)
 
-pub judged_many : (area source : List ℕ) → most_items < length area / 12 → Refused 62 ≡ judged area source
+pub judged_many : (area source : List ℕ) → most_items < length area / 12 → Err 62 ≡ judged area source
 unfolding good_records
 judged_many area source h = judged_bad area source (rw (records_length area 0 (length area / 12), lt-leb _ _ h))
 
@@ -71,7 +71,7 @@ module _ (area source groups : List ℕ) (size p n : ℕ) where
         octets = j.octets ∙ rw (records_next area p n h) (simp (length-append, lay_size source groups (record_at area p) g, add_assoc));
       })
 
-  pub judging_bad : (k : Rec) → k ≡ record_at area p → 0 < n → kind_rule source groups k ≡ false → Judging area source groups size p n → Refused 62 ≡ judged area source
+  pub judging_bad : (k : Rec) → k ≡ record_at area p → 0 < n → kind_rule source groups k ≡ false → Judging area source groups size p n → Err 62 ≡ judged area source
   unfolding good_records good_from
   judging_bad k e h t j =
       let bad : good_record source groups (record_at area p) ≡ false = kind_rule_lem source groups (record_at area p) ∙ rw (← e) t in
@@ -79,7 +79,7 @@ module _ (area source groups : List ℕ) (size p n : ℕ) where
       judged_bad area source (rw f (both_false (leb (length (records_in area)) most_items)))
 
   -- the end, with a group open; too long; and good
-  pub judging_open : n ≡ 0 → 0 < length groups → Judging area source groups size p n → Refused 62 ≡ judged area source
+  pub judging_open : n ≡ 0 → 0 < length groups → Judging area source groups size p n → Err 62 ≡ judged area source
   unfolding good_records good_from records_at
   judging_open z h j =
       let f : good_from source [] (records_in area) ≡ false = j.rest ∙ rw (z, ne_eqb (length groups) 0 (λ e. absurd (omega arith))) in
@@ -89,12 +89,12 @@ module _ (area source groups : List ℕ) (size p n : ℕ) where
   unfolding records_at things_of encode_all
   all_octets z j = j.octets ∙ rw (z, add-zero)
 
-  pub judging_long : n ≡ 0 → longest < size → Judging area source groups size p n → Refused 62 ≡ judged area source
+  pub judging_long : n ≡ 0 → longest < size → Judging area source groups size p n → Err 62 ≡ judged area source
   unfolding good_records
   judging_long z h j =
       judged_bad area source (rw (all_octets z j, lt-leb size longest h, both_false (good_from source [] (records_in area))) (both_false (leb (length (records_in area)) most_items)))
 
-  pub judging_end : n ≡ 0 → length groups ≡ 0 → size ≤ longest → length area % 12 ≡ 0 → length area / 12 ≤ most_items → Judging area source groups size p n → Takes size ≡ judged area source
+  pub judging_end : n ≡ 0 → length groups ≡ 0 → size ≤ longest → length area % 12 ≡ 0 → length area / 12 ≤ most_items → Judging area source groups size p n → Ok size ≡ judged area source
   unfolding judged write_fault good_records good_from records_at
   judging_end z none h whole few j =
       let f : good_from source [] (records_in area) ≡ true = j.rest ∙ rw (z, none) in

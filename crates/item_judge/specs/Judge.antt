@@ -1,5 +1,5 @@
 -- What writing items refuses: a test over the records from the first to the last, with the numbers of the open groups, innermost first.
-use Rattle.std.specs.Prelude.{ℕ, ◌/◌, ◌%◌, List, [], ◌∷◌, Bool, true, false, length, ltb, leb, eqb}
+use Rattle.std.specs.Prelude.{ℕ, ◌/◌, ◌%◌, List, [], ◌∷◌, Bool, true, false, length, ltb, leb, eqb, Result, Ok, Err}
 use Rattle.octets.specs.Choice.{pick, both}
 use Rattle.tags.specs.Types.{longest}
 use Rattle.tags.specs.Layout.{Thing}
@@ -8,8 +8,6 @@ use Rattle.tags.specs.Decide.{valid_thing}
 use Rattle.items.specs.Records.{Rec, records_at, thing_of, things_of}
 use Rattle.items.specs.Reading.{most_items, deepest}
 use Rattle.items.specs.Grammar.{encode_all, record_of}
-use Rattle.item_judge.specs.declared.Judged.{Judged}
-use Rattle.item_judge.specs.declared.Judged.TheVariants.{Takes, Refused}
 
 -- "one 12-octet record an item": the records of a record area
 abbrev pub records_in : List ℕ → List Rec
@@ -64,6 +62,9 @@ good_records source rs =
 unfoldable pub write_fault : List ℕ → List ℕ → ℕ
 write_fault area source = pick (eqb (length area % 12) 0) (pick (good_records source (records_in area)) 0 62) 62
 
--- what judging answers: the octets that the items take, or the refusal
+-- what judging answers: the octets that the items take, or the number of the refusal
+abbrev pub Judged : Type 0
+Judged = Result ℕ ℕ
+
 unfoldable pub judged : List ℕ → List ℕ → Judged
-judged area source = pick (eqb (write_fault area source) 0) (Takes (length (encode_all (things_of source (records_in area))))) (Refused (write_fault area source))
+judged area source = pick (eqb (write_fault area source) 0) (Ok (length (encode_all (things_of source (records_in area))))) (Err (write_fault area source))

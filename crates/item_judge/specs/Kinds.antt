@@ -1,24 +1,25 @@
 -- The same test of a record kind by kind, in the order in which it is made, on the values that the code has.
-use Rattle.std.specs.Prelude.{ℕ, zero, suc, ◌-◌, List, [], ◌∷◌, Bool, true, false, length, get_or, take, drop, ltb, leb, eqb}
+use Rattle.std.specs.Prelude.{ℕ, zero, suc, ◌-◌, List, [], ◌∷◌, Bool, true, false, length, get_or, take, drop, ltb, leb, eqb, Option, Some, None}
 use Rattle.octets.specs.Choice.{pick, both}
 use Rattle.tags.specs.Types.{longest, least, most}
 use Rattle.tags.specs.Layout.{good_contents}
 use Rattle.items.specs.Records.{Rec, rec}
 use Rattle.items.specs.Reading.{deepest}
 use Rattle.item_judge.specs.declared.Record.{Record}
-use Rattle.item_judge.specs.declared.Groups.{Groups}
 
 -- the record that a value of the code is
 abbrev pub rec_of : Record → Rec
 rec_of r = rec r.kind r.number r.depth r.value r.place r.len
 
--- the open groups that a value of the code is, innermost first
+-- the open groups that an array of the code is, innermost first
 abbrev pub stack : List ℕ → ℕ → List ℕ
 stack xs zero = []
 stack xs (suc d) = get_or xs d 0 ∷ stack xs d
 
-abbrev pub groups_of : Groups → List ℕ
-groups_of g = stack g.numbers g.depth
+-- the number of the innermost one
+abbrev pub innermost : List ℕ → Option ℕ
+innermost [] = None
+innermost (m ∷ outer) = Some m
 
 -- whether contents lie in a source of so many octets; where there are none the place is not looked at
 unfoldable pub inside_test : ℕ → ℕ → ℕ → Bool

@@ -3,16 +3,11 @@ ghost use Rattle.std.specs.Prelude.{◌≡◌, ◌≤◌, length};
 ghost use Rattle.item_judge.specs.Kinds.{inside_test, type_rule};
 
 // Whether contents lie in the source; where there are none the place is not looked at.
+#[tactic(auto, using(octets::specs::Rules::tests), unfolding(crate::specs::Kinds::inside_test))]
 pub fn inside(source: &[u8], place: usize, len: usize) -> bool
     ensures { result ≡ inside_test (length source.now) place len }
 {
-    if len == 0 {
-        return true;
-    }
-    if place <= source.len() {
-        return len <= source.len() - place;
-    }
-    false
+    len == 0 || place <= source.len() && len <= source.len() - place
 }
 
 // Whether contents are those of a type n.
@@ -20,11 +15,5 @@ pub fn of_type(source: &[u8], n: u8, place: usize, len: usize) -> bool
     requires { n ≤ 12 }
     ensures { result ≡ type_rule source.now n place len }
 {
-    if len < tags::contents::low(n) {
-        return false;
-    }
-    if tags::contents::high(n) < len {
-        return false;
-    }
-    tags::contents::contents(source, place, n, len) == 0
+    tags::contents::fits(n, len) && tags::contents::contents(source, place, n, len).is_ok()
 }

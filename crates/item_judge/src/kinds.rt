@@ -1,111 +1,71 @@
 // Whether a record may stand where these groups are open, kind by kind.
-ghost use Rattle.std.specs.Prelude.{◌≡◌, ◌≤◌};
-ghost use Rattle.item_judge.specs.Kinds.{rec_of, groups_of, boolean_rule, application_rule, context_rule, bracket_rule, closing_rule, kind_rule};
+ghost use Rattle.std.specs.Prelude.{◌≡◌};
+ghost use Rattle.item_judge.specs.Kinds.{rec_of, boolean_rule, application_rule, context_rule, bracket_rule, closing_rule, kind_rule};
 
-use crate::{Groups, Record, contents};
+use crate::nesting::Groups;
+use crate::{Record, contents};
 
 // A boolean, with so many groups open: its value is in the record, and it has no contents.
+#[tactic(auto, using(octets::specs::Rules::tests), unfolding(crate::specs::Kinds::boolean_rule))]
 fn boolean(r: Record, depth: usize) -> bool
     ensures { result ≡ boolean_rule depth (rec_of r) }
 {
-    if r.depth != depth {
-        return false;
-    }
-    if 1 < r.value {
-        return false;
-    }
-    r.len == 0
+    r.depth == depth && r.value <= 1 && r.len == 0
 }
 
 // Any other application item.
+#[tactic(auto, using(octets::specs::Rules::tests), unfolding(crate::specs::Kinds::application_rule))]
 fn application(r: Record, source: &[u8], depth: usize) -> bool
     ensures { result ≡ application_rule source.now depth (rec_of r) }
 {
-    if r.depth != depth {
-        return false;
-    }
-    if r.value != 0 {
-        return false;
-    }
-    if 12 < r.number {
-        return false;
-    }
-    contents::of_type(source, r.number, r.place, r.len)
+    r.depth == depth
+        && r.value == 0
+        && r.number <= 12
+        && contents::of_type(source, r.number, r.place, r.len)
 }
 
 // A context item.
+#[tactic(auto, using(octets::specs::Rules::tests), unfolding(crate::specs::Kinds::context_rule))]
 fn context(r: Record, source: &[u8], depth: usize) -> bool
     ensures { result ≡ context_rule source.now depth (rec_of r) }
 {
-    if r.depth != depth {
-        return false;
-    }
-    if r.value != 0 {
-        return false;
-    }
-    if 254 < r.number {
-        return false;
-    }
-    if 16384 < r.len {
-        return false;
-    }
-    contents::inside(source, r.place, r.len)
+    r.depth == depth
+        && r.value == 0
+        && r.number <= 254
+        && r.len <= 16384
+        && contents::inside(source, r.place, r.len)
 }
 
 // An opening or a closing, with so many groups open outside it.
+#[tactic(auto, using(octets::specs::Rules::tests), unfolding(crate::specs::Kinds::bracket_rule))]
 fn bracket(r: Record, depth: usize) -> bool
     ensures { result ≡ bracket_rule depth (rec_of r) }
 {
-    if r.depth != depth {
-        return false;
-    }
-    if r.value != 0 {
-        return false;
-    }
-    if 254 < r.number {
-        return false;
-    }
-    r.len == 0
+    r.depth == depth && r.value == 0 && r.number <= 254 && r.len == 0
 }
 
 // A closing: of the innermost group's number.
-fn closing(r: Record, g: Groups) -> bool
-    requires { g.depth ≤ 16 }
-    ensures { result ≡ closing_rule (groups_of g) (rec_of r) }
+fn closing(r: Record, groups: &Groups) -> bool
+    ensures { result ≡ closing_rule groups.now (rec_of r) }
 {
-    let d = g.depth;
-    if d == 0 {
+    let Some(n) = groups.innermost() else {
         return false;
-    }
-    let e = d - 1;
-    if r.number != g.numbers[e] {
-        return false;
-    }
-    bracket(r, e)
+    };
+    r.number == n && bracket(r, groups.depth() - 1)
 }
 
 // A record, with these groups open.
-pub fn good(r: Record, source: &[u8], g: Groups) -> bool
-    requires { g.depth ≤ 16 }
-    ensures { result ≡ kind_rule source.now (groups_of g) (rec_of r) }
+#[tactic(auto, using(octets::specs::Rules::tests), unfolding(crate::specs::Kinds::kind_rule))]
+pub fn good(r: Record, source: &[u8], groups: &Groups) -> bool
+    ensures { result ≡ kind_rule source.now groups.now (rec_of r) }
 {
-    if r.kind == 0 {
-        if r.number == 1 {
-            return boolean(r, g.depth);
-        }
-        return application(r, source, g.depth);
+    let depth = groups.depth();
+    match r.kind {
+        0 if r.number == 1 => boolean(r, depth),
+        0 => application(r, source, depth),
+        1 => context(r, source, depth),
+        2 => depth < 16 && bracket(r, depth),
+        3 => closing(r, groups),
+        _ => false,
     }
-    if r.kind == 1 {
-        return context(r, source, g.depth);
-    }
-    if r.kind == 2 {
-        if g.depth < 16 {
-            return bracket(r, g.depth);
-        }
-        return false;
-    }
-    if r.kind == 3 {
-        return closing(r, g);
-    }
-    false
 }

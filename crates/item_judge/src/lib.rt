@@ -7,14 +7,11 @@ mod nesting;
 pub mod records;
 
 ghost use Rattle.std.specs.Prelude.{◌≡◌, ◌/◌, ◌%◌, ◌≤◌, length};
+ghost use Rattle.octets.specs.Refusal.{numbered};
 ghost use Rattle.item_judge.specs.Judge.{judged};
 
-// What judging answers: the octets that the items take, or the number of the refusal.
-#[derive(Clone, Copy)]
-pub enum Judged {
-    Takes(usize),
-    Refused(u8),
-}
+use nesting::Groups;
+use octets::Refusal;
 
 // A record of an item to write: its kind, number, depth, value, and the place and the length of its contents.
 #[derive(Clone, Copy)]
@@ -27,50 +24,33 @@ pub struct Record {
     pub len: usize,
 }
 
-// The numbers of the open groups, the innermost last, and how many there are.
-#[derive(Clone, Copy)]
-pub struct Groups {
-    pub numbers: [u8; 16],
-    pub depth: usize,
-}
-
-// The records are judged whole before anything is written.
-pub fn judge(records: &[u8], source: &[u8]) -> Judged
-    ensures { result ≡ judged records.now source.now }
+// The octets that the items of records take. The records are judged whole before anything is written.
+pub fn judge(records: &[u8], source: &[u8]) -> Result<usize, Refusal>
+    ensures { numbered result ≡ judged records.now source.now }
 {
-    if records.len() % 12 != 0 {
-        return Judged::Refused(62);
-    }
-    if 2048 < records.len() / 12 {
-        return Judged::Refused(62);
+    if records.len() % 12 != 0 || 2048 < records.len() / 12 {
+        return Err(Refusal::NoReading);
     }
     judge_all(records, source)
 }
 
 // At most 2,048 whole records, from the first to the last.
-fn judge_all(records: &[u8], source: &[u8]) -> Judged
+fn judge_all(records: &[u8], source: &[u8]) -> Result<usize, Refusal>
     requires { (length records.now % 12 ≡ 0) × (length records.now / 12 ≤ 2048) }
-    ensures { result ≡ judged records.now source.now }
+    ensures { numbered result ≡ judged records.now source.now }
 {
-    let mut g = nesting::none();
-    let mut size: usize = 0;
-    let mut p: usize = 0;
-    let mut left = records.len() / 12;
-    while 0 < left {
-        let r = records::record_at(records, p);
-        if !kinds::good(r, source, g) {
-            return Judged::Refused(62);
+    let mut groups = Groups::none();
+    let mut size = 0;
+    for i in 0..records.len() / 12 {
+        let r = records::record_at(records, 12 * i);
+        if !kinds::good(r, source, &groups) {
+            return Err(Refusal::NoReading);
         }
         size += records::size(r);
-        g = nesting::after(g, r);
-        p += 12;
-        left -= 1;
+        groups.pass(r);
     }
-    if 0 < g.depth {
-        return Judged::Refused(62);
+    if 0 < groups.depth() || 16384 < size {
+        return Err(Refusal::NoReading);
     }
-    if 16384 < size {
-        return Judged::Refused(62);
-    }
-    Judged::Takes(size)
+    Ok(size)
 }

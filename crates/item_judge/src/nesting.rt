@@ -1,53 +1,80 @@
-// The numbers of the open groups.
-ghost use Rattle.std.specs.Prelude.{◌≡◌, [], ◌∷◌, ◌≤◌, ◌<◌};
-ghost use Rattle.item_judge.specs.Kinds.{groups_of, groups_after, without};
+// The open groups, by their numbers.
+ghost use Rattle.std.specs.Prelude.{ℕ, List, ◌≡◌, [], ◌∷◌, ◌≤◌, ◌<◌, length};
+ghost use Rattle.item_judge.specs.Kinds.{stack, innermost, without, groups_after};
 
-use crate::{Groups, Record};
+use crate::Record;
+use std::marker::Model;
 
-// No group is open.
-pub fn none() -> Groups
-    ensures { (groups_of result ≡ []) × (result.depth ≡ 0) }
-{
-    let numbers = [0u8; 16];
-    Groups { numbers, depth: 0 }
+// Their numbers, the innermost last, and how many they are: in a clause, the list of the numbers, innermost first.
+#[derive(Drop)]
+pub struct Groups {
+    numbers: [u8; 16],
+    depth: usize,
 }
 
-// A group of number n is opened.
-fn opened(g: Groups, n: u8) -> Groups
-    requires { g.depth < 16 }
-    ensures { (groups_of result ≡ n ∷ groups_of g) × (result.depth ≤ 16) }
-{
-    let mut numbers = g.numbers;
-    let d = g.depth;
-    numbers[d] = n;
-    Groups {
-        numbers,
-        depth: d + 1,
-    }
+impl Model for Groups {
+    ghost Value = { List ℕ };
+
+    ghost view = { λ g. stack g.numbers g.depth };
+
+    ghost invariant = { λ g. g.depth ≤ 16 };
 }
 
-// The innermost group is closed.
-fn closed(g: Groups) -> Groups
-    requires { (0 < g.depth) × (g.depth ≤ 16) }
-    ensures { (groups_of result ≡ without (groups_of g)) × (result.depth ≤ 16) }
-{
-    let numbers = g.numbers;
-    Groups {
-        numbers,
-        depth: g.depth - 1,
+impl Groups {
+    // No group is open.
+    pub fn none() -> Groups
+        ensures { result ≡ [] }
+    {
+        Groups {
+            numbers: [0; 16],
+            depth: 0,
+        }
     }
-}
 
-// The groups that are open after a good record.
-pub fn after(g: Groups, r: Record) -> Groups
-    requires { (g.depth ≤ 16) × (r.kind ≡ 2 → g.depth < 16) × (r.kind ≡ 3 → 0 < g.depth) }
-    ensures { (groups_of result ≡ groups_after r.kind r.number (groups_of g)) × (result.depth ≤ 16) }
-{
-    if r.kind == 2 {
-        return opened(g, r.number);
+    // How many are open.
+    pub fn depth(&self) -> usize
+        ensures { result ≡ length self.now }
+    {
+        self.depth
     }
-    if r.kind == 3 {
-        return closed(g);
+
+    // The innermost group's number.
+    pub fn innermost(&self) -> Option<u8>
+        ensures { result ≡ innermost self.now }
+    {
+        if self.depth == 0 {
+            return None;
+        }
+        Some(self.numbers[self.depth - 1])
     }
-    g
+
+    // A group of number n is opened.
+    fn open(&mut self, n: u8)
+        requires { length self.old < 16 }
+        ensures { self.new ≡ n ∷ self.old }
+    {
+        self.numbers[self.depth] = n;
+        self.depth += 1;
+    }
+
+    // The innermost group is closed.
+    fn close(&mut self)
+        requires { 0 < length self.old }
+        ensures { self.new ≡ without self.old }
+    {
+        self.depth -= 1;
+    }
+
+    // A good record is passed.
+    #[tactic(auto, using(octets::specs::Rules::tests), unfolding(crate::specs::Kinds::groups_after))]
+    pub fn pass(&mut self, r: Record)
+        requires { (r.kind ≡ 2 → length self.old < 16) × (r.kind ≡ 3 → 0 < length self.old) }
+        ensures { self.new ≡ groups_after r.kind r.number self.old }
+    {
+        match r.kind {
+            2 => self.open(r.number),
+            3 => self.close(),
+            _ => {}
+        }
+    }
 }

@@ -1,4 +1,5 @@
 -- One item after another: what is laid, and what is left to lay.
+use Rattle.std.specs.Prelude.{Ok, Err}
 use Prim.Native.Nat.{ℕ, suc, ◌+◌, ◌-◌, ◌/◌, ◌%◌, ◌≤◌, ◌<◌}
 use native.Mathlib.Omega.{arith}
 use mathlib.Core.Path.{◌≡◌, refl, sym, ap, ◌∙◌}
@@ -18,18 +19,11 @@ use Rattle.item_judge.specs.Judge.{records_in, good_from, good_records, write_fa
 use Rattle.item_judge.specs.Meaning.{named}
 use Rattle.item_judge.specs.Kinds.{inside_test}
 use Rattle.item_judge.specs.OneLayout.{layout}
-use Rattle.item_judge.specs.declared.Judged.TheVariants.{Takes, Refused}
 use Rattle.item_judge.proofs.Good.{Good, good_more, good_len, good_named}
 use Rattle.item_judge.proofs.ByKind.{inside_len, len_inside}
 use Rattle.item_judge.proofs.Lay.{lay_thing, good_short}
 use Rattle.item_judge.proofs.Walk.{records_next}
 use Rattle.item_writer.specs.Writing.{Ready}
-
--- three octets, one after the other
-pub put_three : (o₀ o₁ o₂ o₃ : List ℕ) (at a b c : ℕ) → at + 3 ≤ length o₀ → o₁ ≡ splice o₀ at (a ∷ []) → o₂ ≡ splice o₁ (at + 1) (b ∷ []) → o₃ ≡ splice o₂ (at + 2) (c ∷ [])
-    → o₃ ≡ splice o₀ at (a ∷ b ∷ c ∷ [])
-put_three o₀ o₁ o₂ o₃ at a b c h e₁ e₂ e₃ =
-    splice_then o₀ at (a ∷ b ∷ []) (c ∷ []) (omega arith) (splice_then o₀ at (a ∷ []) (b ∷ []) (omega arith) e₁ e₂) e₃
 
 -- a tag octet, two parts after it, and the contents
 pub put_parts : (o₀ o₁ o₂ o₃ o₄ : List ℕ) (at t a b l : ℕ) (n m xs : List ℕ) → length xs ≡ l → at + (1 + length n + length m + l) ≤ length o₀
@@ -125,24 +119,24 @@ pub laying_start : (area source out : List ℕ) → good_from source [] (records
 laying_start area source out g h = record { groups = []; good = g; room = omega arith; same = refl; result = refl }
 
 -- what judging said
-pub judged_takes : (area source : List ℕ) (size : ℕ) → judged area source ≡ Takes size → (write_fault area source ≡ 0) × (size ≡ length (encode_all (things_of source (records_in area)))) × (good_from source [] (records_in area) ≡ true)
+pub judged_takes : (area source : List ℕ) (size : ℕ) → Ok size ≡ judged area source → (write_fault area source ≡ 0) × (size ≡ length (encode_all (things_of source (records_in area)))) × (good_from source [] (records_in area) ≡ true)
 unfolding judged write_fault good_records
 judged_takes area source size e =
     let rs = records_in area in
     let o : ℕ = length (encode_all (things_of source rs)) in
-    let a = pick_so (eqb (write_fault area source) 0) (Takes o) (Refused (write_fault area source)) (Takes size) (λ w. impossible (cc)) e in
+    let a = pick_so (eqb (write_fault area source) 0) (Ok o) (Err (write_fault area source)) (Ok size) (λ w. impossible (cc)) (sym e) in
     let f : write_fault area source ≡ 0 = eqb-true _ _ a.0 in
     let b = pick_so (eqb (length area % 12) 0) (pick (good_records source rs) 0 62) 62 0 (λ z. absurd (omega arith)) f in
     let g = pick_so (good_records source rs) 0 62 0 (λ z. absurd (omega arith)) b.1 in
     let h = both_true (leb (length rs) most_items) _ g.0 in
-    let same : Takes o ≡ Takes size = a.1 in
+    let same : Ok o ≡ Ok size = a.1 in
     (f, (let z : size ≡ o = cc in z), (both_true (good_from source [] rs) _ h.1).0)
 
-pub judged_refused : (area source : List ℕ) (x : ℕ) → judged area source ≡ Refused x → (write_fault area source ≡ x) × (x ≡ 0 → ⊥)
+pub judged_refused : (area source : List ℕ) (x : ℕ) → Err x ≡ judged area source → (write_fault area source ≡ x) × (x ≡ 0 → ⊥)
 unfolding judged
 judged_refused area source x e =
     let f : ℕ = write_fault area source in
-    let a = pick_not (eqb f 0) (Takes (length (encode_all (things_of source (records_in area))))) (Refused f) (Refused x) (λ w. impossible (cc)) e in
-    let same : Refused f ≡ Refused x = a.1 in
+    let a = pick_not (eqb f 0) (Ok (length (encode_all (things_of source (records_in area))))) (Err f) (Err x) (λ w. impossible (cc)) (sym e) in
+    let same : Err f ≡ Err x = a.1 in
     let z : f ≡ x = cc in
     (z, (λ w. eqb-false f 0 a.0 (z ∙ w)))

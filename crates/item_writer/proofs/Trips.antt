@@ -1,24 +1,22 @@
 -- "what was written reads back as the same items", and what was listed is written back to the same octets.
+use Rattle.std.specs.Prelude.{Ok}
 use Prim.Native.Nat.{ℕ, zero, suc, ◌+◌, ◌*◌, ◌/◌, ◌%◌, ◌≤◌}
 use native.Mathlib.Omega.{arith}
 use mathlib.Core.Path.{◌≡◌, refl, sym, ap, ◌∙◌}
-use mathlib.Core.List.{List, [], ◌∷◌, ◌++◌}
+use mathlib.Core.List.{List, [], ◌∷◌}
 use mathlib.Core.Bool.{true}
 use lib.ListN.{length, take, drop}
 use lib.Seq.{take-append_seam, length-take-le, get_or-take}
-use lib.Dec.{ltb, eqb}
-use borrow.Author.Tests.{eqb-true, eq-eqb}
-use Rattle.octets.specs.Choice.{pick, pick_so, pick_not, impossible}
+use borrow.Author.Tests.{eq-eqb}
 use Rattle.octets.specs.Reading.{Octets}
 use Rattle.octets.specs.Numbers.{value_at, value_shift}
-use Rattle.octets.specs.Laid.{Laid, answer_of, area_of}
-use Rattle.octets.specs.declared.Written.TheVariants.{Wrote, Refused}
+use Rattle.octets.specs.Laid.{Laid, laid_wrote}
 use Rattle.items.specs.Records.{Rec, record_at, records_at, things_of}
 use Rattle.items.specs.Reading.{items_of}
 use Rattle.items.specs.Reading.Out.{good}
 use Rattle.items.specs.Grammar.{encode_all}
 use Rattle.items.specs.Listing.{Listed}
-use Rattle.items.specs.declared.Tally.TheVariants.{Items}
+use Rattle.items.specs.Answers.Tally.{Items}
 use Rattle.items.proofs.Exact.{records_are}
 use Rattle.items.proofs.Back.{listed_back}
 use Rattle.items.proofs.Cases.{items_say, area_kept}
@@ -27,19 +25,13 @@ use Rattle.item_judge.specs.Meaning.{AllAlike, ReadingOf}
 use Rattle.item_judge.proofs.Sixty.{takes_writable, reading_good}
 
 -- what a writer that wrote n octets promised
-pub wrote : (f : ℕ) (o area : List ℕ) (n : ℕ) (later : List ℕ) → Laid f o area (Wrote n) later → (f ≡ 0) × (n ≡ length o) × (take n later ≡ o)
-unfolding answer_of area_of
+pub wrote : (f : ℕ) (o area : List ℕ) (n : ℕ) (later : List ℕ) → Laid f o area (Ok n) later → (f ≡ 0) × (n ≡ length o) × (take n later ≡ o)
 wrote f o area n later w =
-    let no : (x : ℕ) → Refused x ≡ Wrote n → ⊥ = λ x q. impossible (cc) in
-    let a = pick_so (eqb f 0) (pick (ltb (length area) (length o)) (Refused 61) (Wrote (length o))) (Refused f) (Wrote n) (no f) (sym w.answer) in
-    let b = pick_not (ltb (length area) (length o)) (Refused 61) (Wrote (length o)) (Wrote n) (no 61) a.1 in
-    let same : Wrote (length o) ≡ Wrote n = b.1 in
-    let len : n ≡ length o = cc in
-    let after : later ≡ o ++ drop (length o) area = w.after ∙ rw (a.0, b.0) in
-    (eqb-true _ _ a.0, len, rw (len, after) (take-append_seam o (drop (length o) area)))
+    let t = laid_wrote f n o area later w in
+    (t.0, t.1, rw (t.1, t.2) (take-append_seam o (drop (length o) area)))
 
 -- the octets that were written are read as the records, places apart, with the contents that these name
-pub written_reads : (area source out : List ℕ) (n : ℕ) (later : List ℕ) → Octets source → Laid (write_fault area source) (encode_all (things_of source (records_in area))) out (Wrote n) later
+pub written_reads : (area source out : List ℕ) (n : ℕ) (later : List ℕ) → Octets source → Laid (write_fault area source) (encode_all (things_of source (records_in area))) out (Ok n) later
     → ReadingOf source (records_in area) (take n later)
 written_reads area source out n later os w =
     let t = wrote _ _ _ n later w in

@@ -9,43 +9,37 @@ ghost use Rattle.item_writer.specs.Writing.{Ready};
 use item_judge::Record;
 
 // The number in the tag octet.
+#[tactic(auto, using(octets::specs::Rules::tests), unfolding(tags::specs::Layout::high_bits))]
 fn high_bits(n: u8) -> u8
     ensures { (result ≡ high_bits n) × (result ≤ 15) }
 {
-    if n < 15 {
-        return n;
-    }
-    15
+    if n < 15 { n } else { 15 }
 }
 
 // The length in the tag octet.
+#[tactic(auto, using(octets::specs::Rules::tests), unfolding(tags::specs::Layout::low_bits))]
 fn low_bits(len: usize) -> u8
     ensures { (result ≡ low_bits len) × (result ≤ 5) }
 {
-    if len < 5 {
-        return len as u8;
-    }
-    5
+    if len < 5 { len as u8 } else { 5 }
 }
 
 // The class and the length bits of the tag octet; a boolean's value is in these.
+#[tactic(auto, using(octets::specs::Rules::tests), unfolding(item_judge::specs::OneLayout::low_part))]
 fn low_part(r: Record) -> u8
     requires { r.value ≤ 1 }
     ensures { (result ≡ low_part (rec_of r)) × (result ≤ 15) }
 {
-    if r.kind == 0 {
-        return r.value + low_bits(r.len);
+    match r.kind {
+        0 => r.value + low_bits(r.len),
+        1 => 8 + low_bits(r.len),
+        2 => 14,
+        _ => 15,
     }
-    if r.kind == 1 {
-        return 8 + low_bits(r.len);
-    }
-    if r.kind == 2 {
-        return 14;
-    }
-    15
 }
 
 // The tag octet.
+#[tactic(auto, unfolding(item_judge::specs::OneLayout::tag_octet))]
 fn tag(r: Record) -> u8
     requires { r.value ≤ 1 }
     ensures { result ≡ tag_octet (rec_of r) }
@@ -65,30 +59,23 @@ fn put_number(out: &mut [u8], at: usize, n: u8) -> usize
     at + 1
 }
 
-// 254 and two octets.
-fn put_long(out: &mut [u8], at: usize, len: usize)
-    requires { (len ≤ 16384) × (at + 3 ≤ length out.old) }
-    ensures { out.new ≡ splice out.old at (254 ∷ len / 256 ∷ len % 256 ∷ []) }
-{
-    octets::put(out, at, 254);
-    octets::put(out, at + 1, (len / 256) as u8);
-    octets::put(out, at + 2, (len % 256) as u8);
-}
-
 // A length that the tag octet has no room for.
 fn put_length(out: &mut [u8], at: usize, len: usize) -> usize
     requires { (len ≤ 16384) × (at + length (length_octets len) ≤ length out.old) }
     ensures { Put out.old at (length_octets len) result out.new }
 {
-    if len < 5 {
-        return at;
+    match len {
+        0..=4 => at,
+        5..=253 => {
+            octets::put(out, at, len as u8);
+            at + 1
+        }
+        _ => {
+            let [high, low] = (len as u16).to_be_bytes();
+            octets::copy(&[254, high, low], out, at);
+            at + 3
+        }
     }
-    if len < 254 {
-        octets::put(out, at, len as u8);
-        return at + 1;
-    }
-    put_long(out, at, len);
-    at + 3
 }
 
 // The contents, as they lie in the source; where there are none the place is not looked at.
@@ -99,8 +86,7 @@ fn put_contents(out: &mut [u8], at: usize, source: &[u8], place: usize, len: usi
     if len == 0 {
         return;
     }
-    let end = place + len;
-    octets::copy(&source[place..end], out, at);
+    octets::copy(&source[place..place + len], out, at);
 }
 
 // The item of a good record, and the place after it.

@@ -16,7 +16,7 @@ use Rattle.items.specs.Reading.{items_of}
 use Rattle.items.specs.Reading.Out.{good}
 use Rattle.items.specs.Grammar.{encode_all, record_of, depth_after, records_from}
 use Rattle.items.specs.Listing.{Listed}
-use Rattle.items.specs.declared.Tally.TheVariants.{Items}
+use Rattle.items.specs.Answers.Tally.{Items}
 use Rattle.items.proofs.RecordOctets.{Fits, AllFit, records_length, records_back}
 use Rattle.items.proofs.Cases.{items_say, items_laid}
 use Rattle.items.proofs.Exact.{written}

@@ -12,8 +12,8 @@ use Rattle.items.specs.Records.{Rec, records_octets}
 use Rattle.items.specs.Reading.{Out, items_of}
 use Rattle.items.specs.Reading.Out.{good, bad}
 use Rattle.items.specs.Listing.{Many, ReadAs, listed_of, listing, Listed}
-use Rattle.items.specs.declared.Tally.{Tally}
-use Rattle.items.specs.declared.Tally.TheVariants.{Items, Small}
+use Rattle.items.specs.Answers.{Tally}
+use Rattle.items.specs.Answers.Tally.{Items, Small}
 use Rattle.items.proofs.RecordOctets.{records_length}
 
 -- 12 octets an item

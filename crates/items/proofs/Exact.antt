@@ -15,8 +15,8 @@ use Rattle.tags.specs.Types.{longest}
 use Rattle.tags.specs.Reading.{head_at}
 use Rattle.tags.specs.Layout.{Thing, Good, encode, Valid, tag_of, tag_length}
 use Rattle.tags.specs.Layout.Thing.{application, boolean, context, opening, closing}
-use Rattle.tags.specs.declared.Tag.{Tag}
-use Rattle.tags.specs.declared.Tag.TheVariants.{Item, Opening, Closing, Refused}
+use Rattle.tags.specs.Head.{Tag}
+use Rattle.tags.specs.Head.Tag.{Item, Opening, Closing, Refused}
 use Rattle.tags.proofs.Exact.{encode_length, encode_some, contents_stand, head_complete, head_sound}
 use Rattle.items.specs.Records.{Rec, thing_of, things_of}
 use Rattle.items.specs.Reading.{Out, more, ending, closes, step, walk, items_of, most_items, deepest}

@@ -9,10 +9,10 @@ use Rattle.octets.specs.Reading.{oct, refuse}
 use Rattle.octets.specs.Front.{Front, front_same, front_pick, front_octet, front_reach, front_within, front_long}
 use Rattle.tags.specs.Types.{least, most}
 use Rattle.tags.specs.Reading.{and_then, number_at, two_at, four_at, length_at, first_rule, first_content, whole_at, sign_bad, signed_at, contents_at, context_at, application_at, head_at}
-use Rattle.tags.specs.declared.Field.{Field}
-use Rattle.tags.specs.declared.Field.TheVariants.{Is, Bad}
-use Rattle.tags.specs.declared.Tag.{Tag}
-use Rattle.tags.specs.declared.Tag.TheVariants.{Item, Refused}
+use Rattle.tags.specs.Head.{Field}
+use Rattle.tags.specs.Head.Field.{Is, Bad}
+use Rattle.tags.specs.Head.{Tag}
+use Rattle.tags.specs.Head.Tag.{Item, Refused}
 
 module _ (a b : List ℕ) where
   number_front : (at : ℕ) → Front (Bad 30) (number_at a at) (number_at (a ++ b) at)

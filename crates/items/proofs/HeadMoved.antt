@@ -12,10 +12,10 @@ use Rattle.octets.specs.Choice.{pick, pick_two, by_test}
 use Rattle.octets.specs.Reading.{oct, be16}
 use Rattle.tags.specs.Types.{least, most, longest}
 use Rattle.tags.specs.Reading.{and_then, number_at, two_at, four_at, length_at, first_rule, whole_at, signed_at, contents_at, context_at, application_at, head_at}
-use Rattle.tags.specs.declared.Field.{Field}
-use Rattle.tags.specs.declared.Field.TheVariants.{Is, Bad}
-use Rattle.tags.specs.declared.Tag.{Tag}
-use Rattle.tags.specs.declared.Tag.TheVariants.{Item, Opening, Closing, Refused}
+use Rattle.tags.specs.Head.{Field}
+use Rattle.tags.specs.Head.Field.{Is, Bad}
+use Rattle.tags.specs.Head.{Tag}
+use Rattle.tags.specs.Head.Tag.{Item, Opening, Closing, Refused}
 
 abbrev pub field_moved : ℕ → Field → Field
 field_moved n (Is v p) = Is v (n + p)

@@ -10,8 +10,8 @@ use borrow.Author.Tests.{lt-leb, eqb-true}
 use Rattle.octets.specs.Choice.{pick_not, pick_so}
 use Rattle.tags.specs.Types.{longest}
 use Rattle.tags.specs.Reading.{head_at}
-use Rattle.tags.specs.declared.Tag.{Tag}
-use Rattle.tags.specs.declared.Tag.TheVariants.{Item, Opening, Closing, Refused}
+use Rattle.tags.specs.Head.{Tag}
+use Rattle.tags.specs.Head.Tag.{Item, Opening, Closing, Refused}
 use Rattle.tags.proofs.Bounds.{TagIn, head_in}
 use Rattle.items.specs.Records.{Rec, rec}
 use Rattle.items.specs.Reading.{Out, more, ending, closes, step, walk, items_of, within, item_at, most_items, deepest}

@@ -11,8 +11,8 @@ use borrow.Author.Tests.{lt-leb, leb-false, le-ltb}
 use Rattle.octets.specs.Choice.{pick, pick_two, by_test}
 use Rattle.tags.specs.Types.{longest}
 use Rattle.tags.specs.Reading.{head_at}
-use Rattle.tags.specs.declared.Tag.{Tag}
-use Rattle.tags.specs.declared.Tag.TheVariants.{Item, Opening, Closing, Refused}
+use Rattle.tags.specs.Head.{Tag}
+use Rattle.tags.specs.Head.Tag.{Item, Opening, Closing, Refused}
 use Rattle.items.specs.Records.{Rec, rec}
 use Rattle.items.specs.Reading.{Out, more, ending, closes, step, walk, items_of, most_items, deepest}
 use Rattle.items.specs.Reading.Out.{good, bad}

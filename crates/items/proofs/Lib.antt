@@ -20,3 +20,4 @@ pub mod HeadMoved
 pub mod LeftToRight
 pub mod Rows
 pub mod Examples
+pub mod Read

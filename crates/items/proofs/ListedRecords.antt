@@ -9,8 +9,8 @@ use Rattle.items.specs.Records.{Rec, records_octets}
 use Rattle.items.specs.Reading.{items_of}
 use Rattle.items.specs.Grammar.{encode_all, Grammar, depth_after, records_from}
 use Rattle.items.specs.Listing.{ReadAs, Listed}
-use Rattle.items.specs.declared.Tally.{Tally}
-use Rattle.items.specs.declared.Tally.TheVariants.{Items}
+use Rattle.items.specs.Answers.{Tally}
+use Rattle.items.specs.Answers.Tally.{Items}
 use Rattle.items.proofs.Cases.{items_given, items_say, items_left}
 use Rattle.items.proofs.Exact.{reads, written}
 

@@ -9,8 +9,8 @@ use Rattle.items.specs.Reading.{Out, items_of, counted}
 use Rattle.items.specs.Reading.Out.{good, bad}
 use Rattle.items.specs.Cycle.{Ran}
 use Rattle.items.specs.Listing.{Many, ReadAs, Listed}
-use Rattle.items.specs.declared.Tally.{Tally}
-use Rattle.items.specs.declared.Tally.TheVariants.{Items, Small}
+use Rattle.items.specs.Answers.{Tally}
+use Rattle.items.specs.Answers.Tally.{Items, Small}
 use Rattle.items.proofs.RecordOctets.{put_all}
 use Rattle.items.proofs.Cases.{items_so, small_so, refused_so, refused_left, small_left, none_left, items_laid}
 
@@ -25,11 +25,6 @@ unfolding counted
 counted_bad (good rs end) x e = impossible (cc)
 counted_bad (bad y) x e = let z : y ≡ x = cc in ap bad z
 
-counted_never : (o : Out) (n : ℕ) → counted o ≡ Small n → ⊥
-unfolding counted
-counted_never (good rs end) n e = impossible (cc)
-counted_never (bad x) n e = impossible (cc)
-
 counted_many : (o : Out) (n : ℕ) → Many o n → counted o ≡ Items n
 unfolding counted
 counted_many o n z = rw (z.2, z.3)
@@ -43,26 +38,23 @@ listed_fits s area n z h r later w =
       after = w.laid z.0 z.1 z.2 ∙ put_all area 0 z.0 l ∙ sym (items_laid area (items_of s) n z h);
     }
 
--- ---- listing, c being the answer of the reading that was lent no octets
-module _ (s area none left : List ℕ) (c : Tally) (ran : Ran s none c left) where
-  pub listed_bad : (x : ℕ) → c ≡ Tally.Refused x → Listed s area (Tally.Refused x) area
-  listed_bad x e =
-      let z : items_of s ≡ bad x = counted_bad (items_of s) x (sym ran.answer ∙ e) in
+-- ---- listing, from what the reading answers that was lent no octets
+module _ (s area none left : List ℕ) where
+  pub listed_bad : (x : ℕ) → Ran s none (Tally.Refused x) left → Listed s area (Tally.Refused x) area
+  listed_bad x ran =
+      let z : items_of s ≡ bad x = counted_bad (items_of s) x (sym ran.answer) in
       record { answer = sym (refused_so (length area) (items_of s) x z); after = sym (refused_left area (items_of s) x z) }
 
-  pub listed_never : (n : ℕ) → c ≡ Small n → Listed s area (Small n) area
-  listed_never n e = absurd (counted_never (items_of s) n (sym ran.answer ∙ e))
-
-  module _ (n : ℕ) (e : c ≡ Items n) where
+  module _ (n : ℕ) (ran : Ran s none (Items n) left) where
     pub listed_none : n ≡ 0 → Listed s area (Items 0) area
     listed_none k =
-        let z : ReadAs s 0 = subst (ReadAs s) k (counted_good (items_of s) n (sym ran.answer ∙ e)) in
+        let z : ReadAs s 0 = subst (ReadAs s) k (counted_good (items_of s) n (sym ran.answer)) in
         record { answer = sym (items_so (length area) (items_of s) 0 z (omega arith)); after = sym (none_left area (items_of s) z) }
 
     pub listed_small : length area / 12 < n → Listed s area (Small n) area
     listed_small h =
-        let z = counted_good (items_of s) n (sym ran.answer ∙ e) in
+        let z = counted_good (items_of s) n (sym ran.answer) in
         record { answer = sym (small_so (length area) (items_of s) n z (omega arith)); after = sym (small_left area (items_of s) n z (omega arith)) }
 
     pub listed_good : n ≤ length area / 12 → (r : Tally) (later : List ℕ) → Ran s area r later → Listed s area r later
-    listed_good h = listed_fits s area n (counted_good (items_of s) n (sym ran.answer ∙ e)) (omega arith)
+    listed_good h = listed_fits s area n (counted_good (items_of s) n (sym ran.answer)) (omega arith)

@@ -10,7 +10,7 @@ use Rattle.tags.specs.Types.{longest}
 use Rattle.items.specs.Records.{Rec}
 use Rattle.items.specs.Reading.{walk, items_of, item_at, one_at, end_of, most_items}
 use Rattle.items.specs.Reading.Out.{good, bad}
-use Rattle.items.specs.declared.One.{One}
+use Rattle.items.specs.Answers.{One}
 use Rattle.items.proofs.Machine.{never}
 
 -- what is read as items lies within them

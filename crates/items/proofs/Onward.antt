@@ -7,7 +7,7 @@ use lib.ListN.{length}
 use lib.Dec.{leb, eqb}
 use Rattle.octets.specs.Choice.{pick_not, pick_so}
 use Rattle.tags.specs.Reading.{head_at}
-use Rattle.tags.specs.declared.Tag.{Tag}
+use Rattle.tags.specs.Head.{Tag}
 use Rattle.tags.proofs.Bounds.{TagIn, head_in}
 use Rattle.items.specs.Records.{Rec, rec}
 use Rattle.items.specs.Reading.{Out, closes, step, within, item_at, most_items, deepest}

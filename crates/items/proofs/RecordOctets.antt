@@ -1,16 +1,15 @@
 -- Records as octets: their length, reading them back, and laying them one after the other.
 use Prim.Native.Nat.{ℕ, ◌+◌, ◌*◌, ◌/◌, ◌%◌, ◌≤◌, ◌<◌}
 use native.Mathlib.Omega.{arith}
-use native.Mathlib.Numerals.{towards_suc}
 use native.Mathlib.Nat.{zero-add}
 use mathlib.Core.Path.{◌≡◌, refl, sym, ◌∙◌}
 use mathlib.Core.List.{List, [], ◌∷◌, ◌++◌}
-use lib.ListN.{length, get_or, set, length-append}
+use lib.ListN.{length, get_or, length-append}
 use borrow.Author.Tests.{lt-leb, le-leb}
 use Rattle.octets.specs.Has.{Has, has_at, has_left, has_right, has_bound, all_has}
-use Rattle.octets.specs.Splice.{splice, splice_nil, splice_length, splice_join, splice_sets, splice_then}
+use Rattle.octets.specs.Splice.{splice, splice_nil, splice_length, splice_join, splice_then}
 use Rattle.octets.specs.Numbers.{value_at, digits, value_shift, value_digits, length_digits, digits_four}
-use Rattle.items.specs.Records.{Rec, rec, record_octets, records_octets, record_at, records_at}
+use Rattle.items.specs.Records.{Rec, record_octets, records_octets, record_at, records_at}
 use Rattle.items.specs.Cycle.{put_record, put_records}
 
 pub record_length : (r : Rec) → length (record_octets r) ≡ 12
@@ -88,16 +87,14 @@ unfolding put_record
 put_none l i r h = rw (le-leb _ _ h)
 
 -- what putting a record stores
-pub put_stores : (l l4 l8 : List ℕ) (i k n d v p q : ℕ) → i < length l / 12
-    → l4 ≡ splice (set (set (set (set l (i * 12) k) (i * 12 + 1) n) (i * 12 + 2) d) (i * 12 + 3) v) (i * 12 + 4) (digits 4 (p % 4294967296))
-    → l8 ≡ splice l4 (i * 12 + 8) (digits 4 (q % 4294967296)) → l8 ≡ put_record l i (rec k n d v p q)
+pub put_stores : (l l4 l8 l12 : List ℕ) (i : ℕ) (r : Rec) → i < length l / 12 → l4 ≡ splice l (i * 12) (r.kind ∷ r.number ∷ r.depth ∷ r.value ∷ [])
+    → l8 ≡ splice l4 (i * 12 + 4) (digits 4 (r.place % 4294967296)) → l12 ≡ splice l8 (i * 12 + 8) (digits 4 (r.len % 4294967296)) → l12 ≡ put_record l i r
 unfolding put_record record_octets
-put_stores l l4 l8 i k n d v p q h e4 e8 =
-    let a : List ℕ = k ∷ n ∷ d ∷ v ∷ [] in
-    let lp = length_digits 4 p in
-    let lq = length_digits 4 q in
-    let l8' : length (a ++ digits 4 p) ≡ 8 = omega arith in
-    let e0 : set (set (set (set l (i * 12) k) (i * 12 + 1) n) (i * 12 + 2) d) (i * 12 + 3) v ≡ splice l (i * 12) a = simp towards_suc (splice_sets l (i * 12) a (omega arith)) in
-    let f4 : l4 ≡ splice l (i * 12) (a ++ digits 4 p) = splice_then l (i * 12) a (digits 4 p) (omega arith) e0 (rw four_wraps at e4) in
-    let f8 : l8 ≡ splice l (i * 12) ((a ++ digits 4 p) ++ digits 4 q) = splice_then l (i * 12) (a ++ digits 4 p) (digits 4 q) (omega arith) f4 (rw l8' (rw four_wraps at e8)) in
-    f8 ∙ rw (lt-leb _ _ h)
+put_stores l l4 l8 l12 i r h e4 e8 e12 =
+    let a : List ℕ = r.kind ∷ r.number ∷ r.depth ∷ r.value ∷ [] in
+    let lp = length_digits 4 r.place in
+    let lq = length_digits 4 r.len in
+    let l8' : length (a ++ digits 4 r.place) ≡ 8 = omega arith in
+    let f8 : l8 ≡ splice l (i * 12) (a ++ digits 4 r.place) = splice_then l (i * 12) a (digits 4 r.place) (omega arith) e4 (rw four_wraps at e8) in
+    let f12 : l12 ≡ splice l (i * 12) ((a ++ digits 4 r.place) ++ digits 4 r.len) = splice_then l (i * 12) (a ++ digits 4 r.place) (digits 4 r.len) (omega arith) f8 (rw l8' (rw four_wraps at e12)) in
+    f12 ∙ rw (lt-leb _ _ h)

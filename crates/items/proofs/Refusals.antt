@@ -7,8 +7,8 @@ use lib.Dec.{ltb, leb, eqb}
 use Rattle.octets.specs.Choice.{pick_case}
 use Rattle.tags.specs.Types.{longest}
 use Rattle.tags.specs.Reading.{head_at}
-use Rattle.tags.specs.declared.Tag.{Tag}
-use Rattle.tags.specs.declared.Tag.TheVariants.{Item, Opening, Closing, Refused}
+use Rattle.tags.specs.Head.{Tag}
+use Rattle.tags.specs.Head.Tag.{Item, Opening, Closing, Refused}
 use Rattle.tags.proofs.Refusals.{TagHas, refusals_have}
 use Rattle.items.specs.Records.{Rec}
 use Rattle.items.specs.Reading.{Out, more, ending, closes, step, walk, within, while_open, items_of, item_at, most_items, deepest}

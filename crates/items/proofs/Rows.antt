@@ -17,8 +17,8 @@ use Rattle.tags.specs.Reading.{head_at}
 use Rattle.tags.specs.Layout.{Thing, Good, Stands, encode, Valid, tag_of}
 use Rattle.tags.specs.Layout.Thing.{application, boolean, context, opening, closing}
 use Rattle.tags.specs.Rows.{Given}
-use Rattle.tags.specs.declared.Tag.{Tag}
-use Rattle.tags.specs.declared.Tag.TheVariants.{Item, Opening, Closing, Refused}
+use Rattle.tags.specs.Head.{Tag}
+use Rattle.tags.specs.Head.Tag.{Item, Opening, Closing, Refused}
 use Rattle.tags.proofs.Exact.{encode_some, head_complete, head_sound}
 use Rattle.tags.proofs.Refusals.{TagHas}
 use Rattle.tags.proofs.Rows.{rows_sound, rows_complete}

@@ -6,14 +6,14 @@ use mathlib.Core.List.{List, [], ◌∷◌, ◌++◌}
 use lib.ListN.{length, length-append}
 use borrow.Author.Tests.{lt-leb, le-leb, eq-eqb, ne_eqb}
 use Rattle.tags.specs.Reading.{head_at}
-use Rattle.tags.specs.declared.Tag.{Tag}
-use Rattle.tags.specs.declared.Tag.TheVariants.{Item, Opening, Closing}
+use Rattle.tags.specs.Head.{Tag}
+use Rattle.tags.specs.Head.Tag.{Item, Opening, Closing}
 use Rattle.tags.proofs.Bounds.{TagIn, head_in}
 use Rattle.items.specs.Records.{Rec, rec}
 use Rattle.items.specs.Reading.{closes, step, most_items, deepest}
 use Rattle.items.specs.Cycle.{Rest, begins, Inside, Went, Stops, Shut, from_item, from_group, ItemSays, GroupSays, put_record, put_records}
-use Rattle.items.specs.declared.Step.{Step}
-use Rattle.items.specs.declared.Step.TheVariants.{Next, Closed, Refused}
+use Rattle.items.specs.Answers.{Step}
+use Rattle.items.specs.Answers.Step.{Next, Closed, Refused}
 use Rattle.items.proofs.Machine.{more_more, more_bad}
 
 -- a head that was read lies within the octets
@@ -67,7 +67,7 @@ module _ (s : List ℕ) (at i d : ℕ) where
         )
 
     module _ (n p : ℕ) (e : head_at s at ≡ Opening n p) (h : d < deepest) where
-      went_open : {to j : ℕ} (rs : List Rec) → Went s d (from_group p n (i + 1)) p (i + 1) to j rs → Went s d (from_item s at i) at i to j (rec 2 n d 0 p 0 ∷ rs)
+      pub went_open : {to j : ℕ} (rs : List Rec) → Went s d (from_group p n (i + 1)) p (i + 1) to j rs → Went s d (from_item s at i) at i to j (rec 2 n d 0 p 0 ∷ rs)
       unfolding begins step
       went_open {to} {j} rs w =
           let b : TagIn s at (Opening n p) = tag_in s at e in

@@ -10,17 +10,20 @@ use borrow.Author.Tests.{lt-leb, le-leb, lt-ltb, le-ltb, leb-true, leb-false}
 use Rattle.octets.specs.Choice.{by_test}
 use Rattle.octets.specs.Reading.{reach}
 use Rattle.tags.specs.Types.{longest}
-use Rattle.items.specs.Records.{Rec}
+use Rattle.tags.specs.Reading.{head_at}
+use Rattle.tags.specs.Head.{Tag}
+use Rattle.tags.specs.Head.Tag.{Item, Opening, Closing}
+use Rattle.items.specs.Records.{Rec, rec}
 use Rattle.items.specs.Reading.{Out, more, ending, closes, step, walk, items_of, counted, within, item_at, end_of, most_items}
 use Rattle.items.specs.Reading.Out.{good, bad}
-use Rattle.items.specs.Cycle.{Ran, Rest, begins, Inside, ItemSays, put_records}
-use Rattle.items.specs.declared.One.{One}
-use Rattle.items.specs.declared.Tally.{Tally}
-use Rattle.items.specs.declared.Tally.TheVariants.{Items}
-use Rattle.items.specs.declared.Step.{Step}
-use Rattle.items.specs.declared.Step.TheVariants.{Next, Closed, Refused}
+use Rattle.items.specs.Cycle.{Ran, Rest, begins, Inside, ItemSays, GroupSays, put_record, put_records}
+use Rattle.items.specs.Answers.{One}
+use Rattle.items.specs.Answers.{Tally}
+use Rattle.items.specs.Answers.Tally.{Items}
+use Rattle.items.specs.Answers.{Step}
+use Rattle.items.specs.Answers.Step.{Next, Closed, Refused}
 use Rattle.items.proofs.Machine.{more_more, more_bad, more_none, never, within_done}
-use Rattle.items.proofs.Steps.{put_next}
+use Rattle.items.proofs.Steps.{put_next, went_open, item_open}
 
 abbrev pub to_end : List ℕ → Rest
 to_end s i at groups = walk (most_items - i) s at groups
@@ -115,18 +118,30 @@ module _ (s area later : List ℕ) (h : length s ≤ longest) where
       let e = items_are (reached_end s area later p k r w) in
       record { answer = rw (e, r.1.count); laid = λ rs end g. let z : r.0 ≡ rs = cc in r.1.laid ∙ rw z }
 
--- what reading one item answers, for each way in which it ends
-module _ (s : List ℕ) (at : ℕ) (l l1 : List ℕ) (q : Step) (says : ItemSays s at 0 0 l l1 q) where
-  pub one_next : (to j : ℕ) → q ≡ Next to j → One.Next to ≡ end_of (item_at s at)
-  unfolding end_of more
-  one_next to j e =
-      let v = subst (ItemSays s at 0 0 l l1) e says in
-      rw (one_begins s at, v.1.same (to_close s) (within_inside s) [] refl, within_done (most_items - j) s to)
+-- what reading one item answers, by the tag at the place
+module _ (s : List ℕ) (at : ℕ) where
+  pub one_bad : (x : ℕ) → Tag.Refused x ≡ head_at s at → One.Refused x ≡ end_of (item_at s at)
+  unfolding end_of item_at step
+  one_bad x e = rw (← e)
 
-  pub one_shut : (n to j : ℕ) → q ≡ Closed n to j → One.Refused 35 ≡ end_of (item_at s at)
+  pub one_shut : (n p : ℕ) → Closing n p ≡ head_at s at → One.Refused 35 ≡ end_of (item_at s at)
   unfolding end_of item_at step closes
-  one_shut n to j e = let v = subst (ItemSays s at 0 0 l l1) e says in rw v.0.tag
+  one_shut n p e = rw (← e)
 
-  pub one_no : (x : ℕ) → q ≡ Refused x → One.Refused x ≡ end_of (item_at s at)
-  unfolding end_of
-  one_no x e = rw (one_begins s at, (subst (ItemSays s at 0 0 l l1) e says) (to_close s) (within_inside s) [] refl)
+  pub one_alone : (k n v p l : ℕ) → Item k n v p l ≡ head_at s at → One.Next (p + l) ≡ end_of (item_at s at)
+  unfolding end_of more item_at step
+  one_alone k n v p l e = rw (← e, within_done (most_items - 1) s (p + l))
+
+  -- and, of a group, by its end
+  module _ (n p : ℕ) (e : Opening n p ≡ head_at s at) (l l1 : List ℕ) where
+    pub one_next : (to j : ℕ) → GroupSays s p n 0 1 l l1 (Next to j) → One.Next to ≡ end_of (item_at s at)
+    unfolding end_of more
+    one_next to j g =
+        let v = went_open s at 0 0 (omega arith) n p (sym e) (omega arith) g.0 g.1 in
+        rw (one_begins s at, v.same (to_close s) (within_inside s) [] refl, within_done (most_items - j) s to)
+
+    pub one_no : (x : ℕ) → GroupSays s p n 0 1 l l1 (Refused x) → One.Refused x ≡ end_of (item_at s at)
+    unfolding end_of
+    one_no x g =
+        let v = item_open s at 0 0 (omega arith) n p (sym e) (omega arith) [] (put_record [] 0 (rec 2 n 0 0 p 0)) [] refl (Refused x) g in
+        rw (one_begins s at, v (to_close s) (within_inside s) [] refl)

@@ -1,16 +1,18 @@
 -- What the item reader and the group reader promise: they say how any reading that goes item by item while a group is open goes on from here.
-use Rattle.std.specs.Prelude.{ℕ, ◌+◌, ◌*◌, ◌/◌, ◌≤◌, ◌<◌, ◌≡◌, List, [], ◌∷◌, length, leb}
+use Rattle.std.specs.Prelude.{ℕ, ◌+◌, ◌-◌, ◌*◌, ◌/◌, ◌≤◌, ◌<◌, ◌≡◌, List, [], ◌∷◌, length, leb, Option, Some, None}
 use Rattle.octets.specs.Choice.{pick}
 use Rattle.octets.specs.Reading.{reach, refuse}
 use Rattle.octets.specs.Splice.{splice}
+use Rattle.tags.specs.Types.{longest}
 use Rattle.tags.specs.Reading.{head_at}
-use Rattle.tags.specs.declared.Tag.TheVariants.{Closing}
+use Rattle.tags.specs.Head.Tag.{Closing}
 use Rattle.items.specs.Records.{Rec, record_octets}
-use Rattle.items.specs.Reading.{Out, more, step, most_items, items_of, counted}
+use Rattle.items.specs.Reading.{Out, more, step, most_items, deepest, items_of, counted}
 use Rattle.items.specs.Reading.Out.{good, bad}
-use Rattle.items.specs.declared.Tally.{Tally}
-use Rattle.items.specs.declared.Step.{Step}
-use Rattle.items.specs.declared.Step.TheVariants.{Next, Closed, Refused}
+use Rattle.items.specs.Answers.{Tally}
+use Rattle.items.specs.Answers.Tally.{Items}
+use Rattle.items.specs.Answers.{Step}
+use Rattle.items.specs.Answers.Step.{Next, Closed, Refused}
 
 -- a reading: what it gives after so many items, from a place on, with the numbers of these groups open
 abbrev pub Rest : Type 0
@@ -74,3 +76,17 @@ GroupSays s at n d i area later (Refused x) = Stops s d (from_group at n i) x
 pub record Ran (s area : List ℕ) (r : Tally) (later : List ℕ) : Type 0 where
   pub answer : r ≡ counted (items_of s)
   pub laid : (rs : List Rec) (end : ℕ) → items_of s ≡ good rs end → later ≡ put_records area 0 rs
+
+-- ---- one function reads all items, and each group in them: with no group open, or with d open and n the number of the innermost
+abbrev pub ReadReady : Option ℕ → List ℕ → ℕ → ℕ → ℕ → Type 0
+ReadReady None s at d i = (length s ≤ longest) × (at ≡ 0) × (d ≡ 0) × (i ≡ 0)
+ReadReady (Some n) s at d i = (0 < d) × (d ≤ deepest)
+
+abbrev pub RunSays : List ℕ → List ℕ → List ℕ → Step → Type 0
+RunSays s area later (Next to j) = Ran s area (Items j) later
+RunSays s area later (Closed n to j) = ⊥
+RunSays s area later (Refused x) = Ran s area (Tally.Refused x) later
+
+abbrev pub ReadSays : Option ℕ → List ℕ → ℕ → ℕ → ℕ → List ℕ → List ℕ → Step → Type 0
+ReadSays None s at d i area later r = RunSays s area later r
+ReadSays (Some n) s at d i area later r = GroupSays s at n (d - 1) i area later r

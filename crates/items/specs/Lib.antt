@@ -1,3 +1,4 @@
+pub mod Answers
 pub mod Records
 pub mod Reading
 pub mod Grammar

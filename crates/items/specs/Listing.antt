@@ -6,8 +6,8 @@ use Rattle.octets.specs.Splice.{splice}
 use Rattle.items.specs.Records.{Rec, records_octets}
 use Rattle.items.specs.Reading.{Out, items_of}
 use Rattle.items.specs.Reading.Out.{good, bad}
-use Rattle.items.specs.declared.Tally.{Tally}
-use Rattle.items.specs.declared.Tally.TheVariants.{Items, Small}
+use Rattle.items.specs.Answers.{Tally}
+use Rattle.items.specs.Answers.Tally.{Items, Small}
 
 -- the page's number of each answer, and the count that comes with it: "the item count", "61 with the count needed", and 0 with a tag's refusal
 abbrev pub tally_number : Tally → ℕ

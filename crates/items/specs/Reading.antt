@@ -4,12 +4,12 @@ use Rattle.octets.specs.Choice.{pick}
 use Rattle.octets.specs.Reading.{refuse}
 use Rattle.tags.specs.Types.{longest}
 use Rattle.tags.specs.Reading.{head_at}
-use Rattle.tags.specs.declared.Tag.{Tag}
-use Rattle.tags.specs.declared.Tag.TheVariants.{Item, Opening, Closing, Refused}
+use Rattle.tags.specs.Head.{Tag}
+use Rattle.tags.specs.Head.Tag.{Item, Opening, Closing, Refused}
 use Rattle.items.specs.Records.{Rec, rec}
-use Rattle.items.specs.declared.Tally.{Tally}
-use Rattle.items.specs.declared.Tally.TheVariants.{Items}
-use Rattle.items.specs.declared.One.{One}
+use Rattle.items.specs.Answers.{Tally}
+use Rattle.items.specs.Answers.Tally.{Items}
+use Rattle.items.specs.Answers.{One}
 
 -- 38: "a 2,049th item begins"; 37: "opening with 16 open"
 abbrev pub most_items : ℕ

@@ -3,8 +3,11 @@ use Rattle.std.specs.Prelude.{ℕ, zero, suc, ◌+◌, List, [], ◌∷◌, ◌+
 use Rattle.octets.specs.Choice.{pick}
 use Rattle.octets.specs.Reading.{oct}
 use Rattle.octets.specs.Numbers.{value_at, digits}
+use Rattle.tags.specs.Head.{Tag}
+use Rattle.tags.specs.Head.Tag.{Item, Opening, Closing, Refused}
 use Rattle.tags.specs.Layout.{Thing}
 use Rattle.tags.specs.Layout.Thing.{application, boolean, context, opening, closing}
+use Rattle.items.specs.declared.records.Record.{Record}
 
 -- "kind (0 application, 1 context, 2 opening, 3 closing), number, depth, boolean value else 0, contents place and length (4 each, high octet first)"
 pub record Rec : Type 0 where
@@ -17,6 +20,17 @@ pub record Rec : Type 0 where
 
 abbrev pub rec : ℕ → ℕ → ℕ → ℕ → ℕ → ℕ → Rec
 rec k n d v p l = record { kind = k; number = n; depth = d; value = v; place = p; len = l }
+
+-- the record of a tag, with d groups open around it
+abbrev pub rec_at : ℕ → Tag → Rec
+rec_at d (Item k n v p l) = rec k n d v p l
+rec_at d (Opening n p) = rec 2 n d 0 p 0
+rec_at d (Closing n p) = rec 3 n d 0 p 0
+rec_at d (Refused x) = rec 0 0 0 0 0 0
+
+-- the record that a value of the code is
+abbrev pub rec_of : Record → Rec
+rec_of r = rec r.kind r.number r.depth r.value r.place r.len
 
 unfoldable pub record_octets : Rec → List ℕ
 record_octets r = (r.kind ∷ r.number ∷ r.depth ∷ r.value ∷ []) ++ (digits 4 r.place ++ digits 4 r.len)

@@ -1,117 +1,71 @@
-// An item that opens calls the group reader, which reads items until its closing number; the octets left fall.
-// The group reader tells each tag itself, and so does the reader of a run: a call of `item` for each costs as much as reading its tag.
-ghost use Rattle.std.specs.Prelude.{◌<◌};
-ghost use Rattle.items.specs.Reading.{deepest};
-ghost use Rattle.items.specs.Cycle.{ItemSays, GroupSays};
+// Items one after the other; where a group opens, the same function reads it to its closing number. The octets left fall.
+ghost use Rattle.items.specs.Answers.{passed_of};
+ghost use Rattle.items.specs.Cycle.{ReadReady, ReadSays};
 
-use crate::Step;
 use crate::records::put;
+use octets::Refusal;
 use tags::Tag;
 
 // 38: "a 2,049th item begins".
 pub const MOST: usize = 2048;
 
-// The item at `at`, in `depth` open groups, after `items` others, with the records of its whole group.
-pub fn item(s: &[u8], at: usize, depth: u8, items: usize, out: &mut [u8]) -> Step
-    ensures { ItemSays s.now at depth items out.old out.new result }
-{
-    if MOST <= items {
-        return Step::Refused(38);
-    }
-    let t = tags::head(s, at);
-    match t {
-        Tag::Item {
-            kind,
-            number,
-            value,
-            place,
-            len,
-        } => {
-            put(out, items, kind, number, depth, value, place, len);
-            Step::Next {
-                at: place + len,
-                items: items + 1,
-            }
-        }
-        Tag::Opening { number, place } => {
-            if 16 <= depth {
-                return Step::Refused(37);
-            }
-            put(out, items, 2, number, depth, 0, place, 0);
-            group(s, place, number, depth, items + 1, out)
-        }
-        Tag::Closing { number, place } => Step::Closed {
-            number,
-            at: place,
-            items: items + 1,
-        },
-        Tag::Refused(x) => Step::Refused(x),
-    }
+// How reading ends: the next place, and the items so far.
+#[derive(Clone, Copy)]
+pub struct Passed {
+    pub at: usize,
+    pub items: usize,
 }
 
-// The items from `at` to the closing number, in `depth` groups outside this one, with their records.
-pub fn group(s: &[u8], at: usize, number: u8, depth: u8, items: usize, out: &mut [u8]) -> Step
-    requires { depth < deepest }
-    ensures { GroupSays s.now at number depth items out.old out.new result }
+// The items from `at`, after `items` others, with their records: to the closing number of the group, the innermost of `depth` that are open,
+// or, where none is open, all to the end.
+pub fn read(
+    s: &[u8],
+    at: usize,
+    group: Option<u8>,
+    depth: u8,
+    items: usize,
+    out: &mut [u8],
+) -> Result<Passed, Refusal>
+    requires { ReadReady group s.now at depth items }
+    ensures { ReadSays group s.now at depth items out.old out.new (passed_of result) }
 {
-    let inner = depth + 1;
     let mut p = at;
     let mut k = items;
+    // Stays: (d) what was read says where the next turn begins, and no index counts the turns.
     while p < s.len() {
         if MOST <= k {
-            return Step::Refused(38);
+            return Err(Refusal::TooManyItems);
         }
-        let t = tags::head(s, p);
-        match t {
-            Tag::Item {
-                kind,
-                number: n,
-                value,
-                place,
-                len,
-            } => {
-                put(out, k, kind, n, inner, value, place, len);
+        let tag = tags::head(s, p)?;
+        match tag {
+            Tag::Item { place, len, .. } => {
+                put(out, k, tag, depth);
                 p = place + len;
                 k += 1;
             }
-            Tag::Opening { number: n, place } => {
-                if 16 <= inner {
-                    return Step::Refused(37);
+            Tag::Opening { number, place } => {
+                if 16 <= depth {
+                    return Err(Refusal::TooDeep);
                 }
-                put(out, k, 2, n, inner, 0, place, 0);
-                let r = group(s, place, n, inner, k + 1, out);
-                match r {
-                    Step::Next { at: to, items: j } => {
-                        p = to;
-                        k = j;
-                    }
-                    // A group never answers so.
-                    Step::Closed {
-                        number: _,
-                        at: _,
-                        items: _,
-                    } => {
-                        return Step::Refused(35);
-                    }
-                    Step::Refused(x) => {
-                        return Step::Refused(x);
-                    }
-                }
+                put(out, k, tag, depth);
+                let end = read(s, place, Some(number), depth + 1, k + 1, out)?;
+                p = end.at;
+                k = end.items;
             }
-            Tag::Closing { number: n, place } => {
-                if n == number {
-                    put(out, k, 3, number, depth, 0, place, 0);
-                    return Step::Next {
-                        at: place,
-                        items: k + 1,
-                    };
+            Tag::Closing { number, place } => {
+                if group != Some(number) {
+                    return Err(Refusal::StrayClosing);
                 }
-                return Step::Refused(35);
-            }
-            Tag::Refused(x) => {
-                return Step::Refused(x);
+                put(out, k, tag, depth - 1);
+                return Ok(Passed {
+                    at: place,
+                    items: k + 1,
+                });
             }
         }
     }
-    Step::Refused(36)
+    if group.is_some() {
+        return Err(Refusal::GroupLeftOpen);
+    }
+    Ok(Passed { at: p, items: k })
 }

@@ -1,124 +1,100 @@
 // What is said of a message in front of its parameters: the PDU, stations with their network addresses, the invoke ID.
 use crate::heard::Heard;
 use npdu::Npdu;
-use words::{fill, fill_five, named, number, one, put, station};
+use words::Pen;
+use words::names::{CONFIRMED, KINDS, UNCONFIRMED};
 
-// The octets of a network address.
-fn address(book: &[u8], len: u8, octets: [u8; 7], out: &mut [u8], at: usize) -> usize {
-    if len == 0 {
-        return at;
-    }
-    let a = put(out, at, b" address ");
-    values::long::octets(book, show::part(&octets, 0, octets::wide(len)), out, a)
-}
-
-// A network and an address on it.
-fn route(book: &[u8], network: u16, len: u8, octets: [u8; 7], out: &mut [u8], at: usize) -> usize {
+// A network and the address on it, the first octets of seven.
+fn route(pen: &mut Pen, network: u16, len: u8, octets: &[u8; 7]) {
     if network == 65535 {
-        return put(out, at, b" (every network)");
+        return pen.put(b" (every network)");
     }
-    let a = fill(book, b" (network #1", network as u64, 0, 0, out, at);
-    let b = address(book, len, octets, out, a);
-    one(41, out, b)
+    write!(pen, " (network {network}");
+    if len != 0 {
+        pen.put(b" address ");
+        values::long::octets(pen, values::span(octets, 0, usize::from(len)));
+    }
+    pen.one(b')');
 }
 
 // The source's network address, where the header gives one.
-fn source(book: &[u8], h: Npdu, out: &mut [u8], at: usize) -> usize {
+fn source(pen: &mut Pen, h: &Npdu) {
     if h.source {
-        let adr = h.sadr;
-        return route(book, h.snet, h.slen, adr, out, at);
+        route(pen, h.snet, h.slen, &h.sadr);
     }
-    at
 }
 
 // The destination's, likewise.
-fn destination(book: &[u8], h: Npdu, out: &mut [u8], at: usize) -> usize {
+fn destination(pen: &mut Pen, h: &Npdu) {
     if h.dest {
-        let adr = h.dadr;
-        return route(book, h.dnet, h.dlen, adr, out, at);
+        route(pen, h.dnet, h.dlen, &h.dadr);
     }
-    at
 }
 
 // From whom to whom a frame goes.
-pub fn stations(from: u8, to: u8, out: &mut [u8], at: usize) -> usize {
-    let a = number(from as u64, out, at);
-    let b = put(out, a, b" to ");
-    station(to as u64, out, b)
+pub fn stations(pen: &mut Pen, from: u8, to: u8) {
+    pen.number(from);
+    pen.put(b" to ");
+    pen.station(to);
 }
 
 // Source and destination, a network address behind each where the header gives one.
-pub fn routed(book: &[u8], r: Heard, h: Npdu, out: &mut [u8], at: usize) -> usize {
-    let a = fill(book, b", from #2", 0, r.from as u64, 0, out, at);
-    let b = source(book, h, out, a);
-    let c = fill(book, b" to #s", 0, 0, r.to as u64, out, b);
-    destination(book, h, out, c)
+pub fn routed(pen: &mut Pen, r: Heard, h: &Npdu) {
+    pen.put(b", from ");
+    pen.number(r.from);
+    source(pen, h);
+    pen.put(b" to ");
+    pen.station(r.to);
+    destination(pen, h);
 }
 
 // The same as cells of a table.
-pub fn cells(book: &[u8], r: Heard, h: Npdu, out: &mut [u8], at: usize) -> usize {
-    let a = number(r.from as u64, out, at);
-    let b = source(book, h, out, a);
-    let c = one(44, out, b);
-    let d = station(r.to as u64, out, c);
-    destination(book, h, out, d)
+pub fn cells(pen: &mut Pen, r: Heard, h: &Npdu) {
+    pen.number(r.from);
+    source(pen, h);
+    pen.one(b',');
+    pen.station(r.to);
+    destination(pen, h);
 }
 
-// Kinds of PDU without a service; an abort says who aborts.
-fn bare(book: &[u8], first: u8, out: &mut [u8], at: usize) -> usize {
-    if first / 16 == 7 && first % 2 == 1 {
-        return fill_five(book, b"#k", 0, 0, 0, 8, 0, out, at);
-    }
-    fill_five(book, b"#k", 0, 0, 0, (first / 16) as u64, 0, out, at)
-}
-
-// A confirmed service, and the kind of PDU behind it.
-fn served(book: &[u8], first: u8, choice: u8, out: &mut [u8], at: usize) -> usize {
-    let a = named(book, b'q', choice as u64, out, at);
-    named(book, b'k', (first / 16) as u64, out, a)
-}
-
-// The kind of PDU, behind its service where it has one. Services that are not confirmed have numbers of their own.
-pub fn pdu(book: &[u8], first: u8, choice: u8, out: &mut [u8], at: usize) -> usize {
-    match first / 16 {
-        1 => fill(book, b"#u", choice as u64, 0, 0, out, at),
-        4 => bare(book, first, out, at),
-        6 => bare(book, first, out, at),
-        7 => bare(book, first, out, at),
-        _ => served(book, first, choice, out, at),
+// The kind of PDU, behind its service where it has one. Services that are not confirmed have numbers of their own; an abort says who aborts.
+pub fn pdu(pen: &mut Pen, r: Heard) {
+    let kind = u32::from(r.apdu());
+    let choice = u32::from(r.choice);
+    match kind {
+        1 => pen.name(UNCONFIRMED.name(choice)),
+        7 if r.first % 2 == 1 => pen.name(KINDS.name(8)),
+        4 | 6 | 7 => pen.name(KINDS.name(kind)),
+        _ => {
+            pen.name(CONFIRMED.name(choice));
+            pen.name(KINDS.name(kind));
+        }
     }
 }
 
 // Whether a message with a confirmed service came without a network address: two octets of network header, no source, no destination.
-pub fn local(first: u8, data: &[u8]) -> bool {
-    if first / 16 == 1 || first / 16 == 4 || 5 < first / 16 {
-        return false;
-    }
-    if data.len() < 2 {
-        return false;
-    }
-    data[1] < 8
+pub fn local(r: Heard) -> bool {
+    matches!(r.apdu(), 0 | 2 | 3 | 5) && matches!(r.data, [_, control, ..] if *control < 8)
 }
 
-fn invoke(r: Heard, out: &mut [u8], at: usize) -> usize {
-    let a = put(out, at, b", invoke ");
-    number(r.invoke as u64, out, a)
+fn invoke(pen: &mut Pen, r: Heard) {
+    pen.put(b", invoke ");
+    pen.number(r.invoke);
 }
 
 // What the report of such a message says.
-pub fn near(book: &[u8], r: Heard, out: &mut [u8], at: usize) -> usize {
-    let a = served(book, r.first, r.choice, out, at);
-    let b = put(out, a, b", from ");
-    let c = stations(r.from, r.to, out, b);
-    invoke(r, out, c)
+pub fn near(pen: &mut Pen, r: Heard) {
+    pdu(pen, r);
+    pen.put(b", from ");
+    stations(pen, r.from, r.to);
+    invoke(pen, r);
 }
 
 // What every report of an APDU says.
-pub fn message(book: &[u8], r: Heard, h: Npdu, out: &mut [u8], at: usize) -> usize {
-    let a = pdu(book, r.first, r.choice, out, at);
-    let b = routed(book, r, h, out, a);
-    if r.first / 16 == 1 {
-        return b;
+pub fn message(pen: &mut Pen, r: Heard, h: &Npdu) {
+    pdu(pen, r);
+    routed(pen, r, h);
+    if r.apdu() != 1 {
+        invoke(pen, r);
     }
-    invoke(r, out, b)
 }

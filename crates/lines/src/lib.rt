@@ -1,5 +1,4 @@
-// A report as a line in words, and as rows of a table. The frame's octets are those of the frame store, the parameters of a message that was
-// rebuilt those of the message area: both as the call that reported left them. `records` is an area for the records of a value's items.
+// A report as a line in words, and as rows of a table. `records` is an area for the records of a value's items.
 #![tactic(auto)]
 
 mod heading;
@@ -7,152 +6,96 @@ mod heard;
 mod message;
 pub mod table;
 
-use crate::heard::Heard;
-use words::{fill, named, number, one, put};
+use crate::heard::{Heard, Kind};
+use words::Pen;
+use words::names::{DAMAGES, FRAMES, NETWORK, REFUSALS};
 
 // A frame without a message.
-fn frame(book: &[u8], r: Heard, out: &mut [u8], at: usize) -> usize {
-    let a = named(book, b'f', r.frame as u64, out, at);
-    let b = put(out, a, b", from ");
-    let c = heading::stations(r.from, r.to, out, b);
-    data_octets(book, r.length, out, c)
-}
-
-fn data_octets(book: &[u8], n: u16, out: &mut [u8], at: usize) -> usize {
-    if n == 0 {
-        return at;
+fn frame(pen: &mut Pen, r: Heard) {
+    pen.name(FRAMES.name(u32::from(r.frame)));
+    pen.put(b", from ");
+    heading::stations(pen, r.from, r.to);
+    if r.length != 0 {
+        write!(pen, ", {} data octets", r.length);
     }
-    fill(book, b", #1 data octets", n as u64, 0, 0, out, at)
 }
 
-fn damage(book: &[u8], r: Heard, out: &mut [u8], at: usize) -> usize {
-    fill(book, b"damage, #1: #d", r.number as u64, 0, 0, out, at)
+fn damage(pen: &mut Pen, r: Heard) {
+    let name = DAMAGES.name(u32::from(r.number));
+    write!(pen, "damage, {}: {name}", r.number);
 }
 
-fn refused(book: &[u8], r: Heard, out: &mut [u8], at: usize) -> usize {
-    fill(
-        book,
-        b"refused, #1: #r, from #2 to #s",
-        r.number as u64,
-        r.from as u64,
-        r.to as u64,
-        out,
-        at,
-    )
+fn refused(pen: &mut Pen, r: Heard) {
+    let name = REFUSALS.name(u32::from(r.number));
+    write!(pen, "refused, {}: {name}, from ", r.number);
+    heading::stations(pen, r.from, r.to);
 }
 
 // A network layer message: its type by name.
-fn network(book: &[u8], r: Heard, data: &[u8], out: &mut [u8], at: usize) -> usize {
-    let n = npdu::read(data);
-    let h = n.head;
-    let a = fill(
-        book,
-        b"network layer message #l",
-        h.kind as u64,
-        0,
-        0,
-        out,
-        at,
-    );
-    let b = heading::routed(book, r, h, out, a);
-    fill(book, b", #1 octets", r.length as u64, 0, 0, out, b)
+fn network(pen: &mut Pen, r: Heard) {
+    let h = r.header().npdu;
+    let name = NETWORK.name(u32::from(h.kind));
+    write!(pen, "network layer message {name}");
+    heading::routed(pen, r, &h);
+    write!(pen, ", {} octets", r.length);
 }
 
 // A report in words.
-fn said(
-    book: &[u8],
-    r: Heard,
-    data: &[u8],
-    area: &[u8],
-    records: &mut [u8],
-    out: &mut [u8],
-    at: usize,
-) -> usize {
-    let kind = r.kind;
-    match kind {
-        1 => frame(book, r, out, at),
-        2 => damage(book, r, out, at),
-        3 => message::whole(book, r, data, records, out, at),
-        4 => message::segment(book, r, data, out, at),
-        5 => message::complete(book, r, data, area, records, out, at),
-        6 => refused(book, r, out, at),
-        _ => network(book, r, data, out, at),
+fn said(pen: &mut Pen, r: Heard, records: &mut [u8]) {
+    match r.kind {
+        Kind::Frame => frame(pen, r),
+        Kind::Damage => damage(pen, r),
+        Kind::Message => message::whole(pen, r, records),
+        Kind::Segment => message::segment(pen, r),
+        Kind::Complete => message::complete(pen, r, records),
+        Kind::Refused => refused(pen, r),
+        Kind::Network => network(pen, r),
     }
 }
 
-// The end of a line: where wanted, the 16 octets of the report.
-fn end(report: &[u8; 16], wanted: bool, out: &mut [u8], at: usize) -> usize {
-    if wanted {
-        let a = put(out, at, b" |");
-        let b = values::long::row(report, out, a);
-        return one(10, out, b);
+// A report, with the frame's octets in the frame store and the message area: both as the call that reported left them.
+#[derive(Clone, Copy)]
+pub struct Report<'a> {
+    pub octets: &'a [u8; 16],
+    pub data: &'a [u8],
+    pub area: &'a [u8],
+}
+
+impl Report<'_> {
+    // Whether it is a token without data: by far the most frequent frame of a trunk.
+    fn token(self) -> bool {
+        let r = self.octets;
+        r[0] == 1 && r[2] == 0 && r[10] == 0 && r[11] == 0
     }
-    one(10, out, at)
-}
 
-// Whether a report is a token without data: by far the most frequent frame of a trunk.
-fn token(report: &[u8; 16]) -> bool {
-    report[0] == 1 && report[2] == 0 && report[10] == 0 && report[11] == 0
-}
-
-// A token's words, without a look into the book.
-fn passed(report: &[u8; 16], out: &mut [u8], at: usize) -> usize {
-    let a = put(out, at, b": token, from ");
-    heading::stations(report[4], report[3], out, a)
-}
-
-// A report's place: what is counted, and the number of the one that caused it.
-fn place(counted: &[u8], n: u64, out: &mut [u8], at: usize) -> usize {
-    let a = put(out, at, counted);
-    number(n, out, a)
-}
-
-// A report in words behind its place.
-fn told(
-    book: &[u8],
-    report: &[u8; 16],
-    data: &[u8],
-    area: &[u8],
-    records: &mut [u8],
-    out: &mut [u8],
-    at: usize,
-) -> usize {
-    if token(report) {
-        return passed(report, out, at);
+    // In words behind its place. A token's words come without a look at anything else.
+    fn told(self, pen: &mut Pen, records: &mut [u8]) {
+        if self.token() {
+            pen.put(b": token, from ");
+            return heading::stations(pen, self.octets[4], self.octets[3]);
+        }
+        pen.put(b": ");
+        said(pen, Heard::of(self), records);
     }
-    let a = put(out, at, b": ");
-    said(book, heard::of(report), data, area, records, out, a)
-}
 
-// The line of a report: the octets heard so far, the report in words and, where wanted, its octets.
-pub fn line(
-    book: &[u8],
-    heard: u64,
-    report: &[u8; 16],
-    data: &[u8],
-    area: &[u8],
-    records: &mut [u8],
-    wanted: bool,
-    out: &mut [u8],
-    at: usize,
-) -> usize {
-    let a = place(b"octet ", heard, out, at);
-    let b = told(book, report, data, area, records, out, a);
-    end(report, wanted, out, b)
-}
+    // Its line: the octets heard so far, the report in words and, where wanted, its octets.
+    pub fn line(self, pen: &mut Pen, heard: u64, wanted: bool, records: &mut [u8]) {
+        pen.put(b"octet ");
+        pen.number(heard);
+        self.told(pen, records);
+        if wanted {
+            pen.put(b" |");
+            let octets = self.octets;
+            values::long::row(pen, octets);
+        }
+        pen.one(b'\n');
+    }
 
-// The line of a report behind the number of the record that caused it, for recordings.
-pub fn recorded(
-    book: &[u8],
-    record: u64,
-    report: &[u8; 16],
-    data: &[u8],
-    area: &[u8],
-    records: &mut [u8],
-    out: &mut [u8],
-    at: usize,
-) -> usize {
-    let a = place(b"record ", record, out, at);
-    let b = told(book, report, data, area, records, out, a);
-    one(10, out, b)
+    // Its line behind the number of the record that caused it, for recordings.
+    pub fn recorded(self, pen: &mut Pen, record: u64, records: &mut [u8]) {
+        pen.put(b"record ");
+        pen.number(record);
+        self.told(pen, records);
+        pen.one(b'\n');
+    }
 }

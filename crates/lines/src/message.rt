@@ -1,147 +1,86 @@
 // A message in words: an unsegmented APDU, a segment, or a message that was rebuilt.
 use crate::heading;
 use crate::heard::Heard;
-use apdu::{Answer, Edition, Pdu, SegmentAckPdu};
-use words::{fill, put};
+use apdu::{Edition, Pdu, SegmentAckPdu};
+use words::Pen;
+use words::names::{ABORTS, REJECTS};
 
 // A segment ack: the segment's number, the window, whether it is negative, and who acknowledges.
-fn segment_ack(book: &[u8], p: SegmentAckPdu, out: &mut [u8], at: usize) -> usize {
-    let a = fill(
-        book,
-        b": segment #1, window #2",
-        p.number as u64,
-        p.window as u64,
-        0,
-        out,
-        at,
-    );
-    let b = negative(book, p.nak, out, a);
-    if p.srv {
-        return put(out, b, b", by the server");
+fn segment_ack(pen: &mut Pen, p: SegmentAckPdu) {
+    write!(pen, ": segment {}, window {}", p.number, p.window);
+    if p.nak {
+        pen.put(b", negative");
     }
-    put(out, b, b", by the client")
-}
-
-fn negative(book: &[u8], nak: bool, out: &mut [u8], at: usize) -> usize {
-    if nak {
-        return put(out, at, b", negative");
-    }
-    at
+    pen.put(if p.srv {
+        b", by the server"
+    } else {
+        b", by the client"
+    });
 }
 
 // What a PDU without parameters says.
-fn bare(book: &[u8], p: Pdu, out: &mut [u8], at: usize) -> usize {
+fn bare(pen: &mut Pen, p: Pdu) {
     match p {
-        Pdu::SegmentAck(q) => segment_ack(book, q, out, at),
-        Pdu::Reject(q) => fill(book, b": #j", q.reason as u64, 0, 0, out, at),
-        Pdu::Abort(q) => fill(book, b": #a", q.reason as u64, 0, 0, out, at),
-        Pdu::Request(_) => at,
-        Pdu::Unconfirmed(_) => at,
-        Pdu::SimpleAck(_) => at,
-        Pdu::ComplexAck(_) => at,
-        Pdu::Error(_) => at,
+        Pdu::SegmentAck(q) => segment_ack(pen, q),
+        Pdu::Reject(q) => write!(pen, ": {}", REJECTS.name(u32::from(q.reason))),
+        Pdu::Abort(q) => write!(pen, ": {}", ABORTS.name(u32::from(q.reason))),
+        Pdu::Request(_)
+        | Pdu::Unconfirmed(_)
+        | Pdu::SimpleAck(_)
+        | Pdu::ComplexAck(_)
+        | Pdu::Error(_) => {}
     }
 }
 
-// Where the parameters of an unsegmented APDU of this kind begin; 0 where it has none.
-pub fn begins(kind: u8) -> usize {
-    match kind {
+// The parameters of an unsegmented APDU of this type; none where it has no parameters.
+pub fn parameters(apdu: u8, s: &[u8]) -> Option<&[u8]> {
+    let begin = match apdu {
         0 => 4,
         1 => 2,
-        3 => 3,
-        5 => 3,
-        _ => 0,
-    }
+        3 | 5 => 3,
+        _ => return None,
+    };
+    Some(s.get(begin..).unwrap_or(&[]))
 }
 
 // Service parameters behind a colon.
-fn params(book: &[u8], r: Heard, s: &[u8], records: &mut [u8], out: &mut [u8], at: usize) -> usize {
-    let a = put(out, at, b": ");
-    values::service::text(book, r.first / 16, r.choice, s, records, out, a)
+fn params(pen: &mut Pen, r: Heard, s: &[u8], records: &mut [u8]) {
+    pen.put(b": ");
+    values::service::text(pen, r.apdu(), r.choice, s, records);
 }
 
 // What an unsegmented APDU says behind its heading. A header is read of kinds without parameters alone: no request, and the editions read them alike.
-fn said(book: &[u8], r: Heard, s: &[u8], records: &mut [u8], out: &mut [u8], at: usize) -> usize {
-    let from = begins(r.first / 16);
-    if 0 < from {
-        return params(book, r, show::part(s, from, s.len()), records, out, at);
+fn said(pen: &mut Pen, r: Heard, s: &[u8], records: &mut [u8]) {
+    if let Some(t) = parameters(r.apdu(), s) {
+        return params(pen, r, t, records);
     }
-    let p = apdu::read(Edition::First, s);
-    match p {
-        Answer::Good(q) => bare(book, q, out, at),
-        Answer::Refused(_) => at,
+    if let Ok(p) = apdu::read(Edition::First, s) {
+        bare(pen, p);
     }
 }
 
 // An unsegmented APDU: its octets stand behind the network header.
-pub fn whole(
-    book: &[u8],
-    r: Heard,
-    data: &[u8],
-    records: &mut [u8],
-    out: &mut [u8],
-    at: usize,
-) -> usize {
-    if heading::local(r.first, data) {
-        let a = heading::near(book, r, out, at);
-        return said(
-            book,
-            r,
-            values::span(data, 2, r.length as usize),
-            records,
-            out,
-            a,
-        );
+pub fn whole(pen: &mut Pen, r: Heard, records: &mut [u8]) {
+    if heading::local(r) {
+        heading::near(pen, r);
+        return said(pen, r, r.octets(2), records);
     }
-    let n = npdu::read(data);
-    let h = n.head;
-    let a = heading::message(book, r, h, out, at);
-    said(
-        book,
-        r,
-        values::span(data, n.next, r.length as usize),
-        records,
-        out,
-        a,
-    )
+    let h = r.header();
+    heading::message(pen, r, &h.npdu);
+    said(pen, r, r.octets(h.next), records);
 }
 
 // A segment that was taken: its slot and the octets held so far.
-pub fn segment(book: &[u8], r: Heard, data: &[u8], out: &mut [u8], at: usize) -> usize {
-    let a = put(out, at, b"segment of ");
-    let n = npdu::read(data);
-    let h = n.head;
-    let b = heading::message(book, r, h, out, a);
-    fill(
-        book,
-        b", slot #1, #2 octets held",
-        r.slot as u64,
-        r.length as u64,
-        0,
-        out,
-        b,
-    )
-}
-
-// The parameters of a message that was rebuilt: "Slot s owns message area octets 16384 s to 16384 s + 16383".
-pub fn rebuilt(r: Heard, area: &[u8]) -> &[u8] {
-    values::span(area, octets::wide(r.slot) * 16384, r.length as usize)
+pub fn segment(pen: &mut Pen, r: Heard) {
+    pen.put(b"segment of ");
+    heading::message(pen, r, &r.header().npdu);
+    write!(pen, ", slot {}, {} octets held", r.slot, r.length);
 }
 
 // A message that was rebuilt.
-pub fn complete(
-    book: &[u8],
-    r: Heard,
-    data: &[u8],
-    area: &[u8],
-    records: &mut [u8],
-    out: &mut [u8],
-    at: usize,
-) -> usize {
-    let a = put(out, at, b"complete: ");
-    let n = npdu::read(data);
-    let h = n.head;
-    let b = heading::message(book, r, h, out, a);
-    let c = fill(book, b", slot #1", r.slot as u64, 0, 0, out, b);
-    params(book, r, rebuilt(r, area), records, out, c)
+pub fn complete(pen: &mut Pen, r: Heard, records: &mut [u8]) {
+    pen.put(b"complete: ");
+    heading::message(pen, r, &r.header().npdu);
+    write!(pen, ", slot {}", r.slot);
+    params(pen, r, r.rebuilt(), records);
 }

@@ -1,147 +1,120 @@
-// The listener between two calls, over the lent frame store and message area.
-use crate::output;
-use crate::output::Gathered;
+// The listener between two calls: what it hears by, and what it counts.
 use apdu::Edition;
-use collector::lent;
+use collector::lent::{self, Hushed};
 use frames::{Link, Phase, Receiver};
 use rebuild::Slots;
 
-// `edition`: chosen once, for the whole input; `framed`: octets of frames, damaged ones too; `at`: the octets gathered for writing;
-// `more`: the last call reported, the reading goes on; `stopped`: nothing more can be written.
-#[derive(Clone, Copy)]
+// `edition`: chosen once, for the whole input; `octets`: all that came; `framed`: those of frames, damaged ones too; `counts`: reports by kind.
+#[derive(Drop)]
 pub struct Ear {
-    pub edition: Edition,
-    pub link: Link,
-    pub slots: Slots,
+    edition: Edition,
+    link: Link,
+    slots: Slots,
+    pub store: [u8; 501],
+    pub area: [u8; 65536],
     pub octets: u64,
     pub framed: u64,
-    pub at: usize,
-    pub more: bool,
-    pub stopped: bool,
+    pub counts: [u64; 12],
+}
+
+// What one call eats of a piece, and its report.
+#[derive(Clone, Copy)]
+pub struct Heard {
+    pub eaten: usize,
+    pub report: Option<[u8; 16]>,
 }
 
 impl Ear {
-    // So many octets gathered. Where nothing more can be written the listening stops.
-    pub fn wrote(self, g: Gathered) -> Ear {
-        let mut e = self;
-        e.at = g.at;
-        if g.stopped {
-            e.stopped = true;
-            e.more = false;
+    // A fresh one by an edition.
+    pub fn new(edition: Edition) -> Ear {
+        Ear {
+            edition,
+            link: Receiver::FRESH.link,
+            slots: Slots::fresh(),
+            store: [0; 501],
+            area: [0; 65536],
+            octets: 0,
+            framed: 0,
+            counts: [0; 12],
         }
-        e
     }
 
-    // Whether the reading goes on; never where nothing can be written.
-    pub fn going(self, more: bool) -> Ear {
-        let mut e = self;
-        e.more = more && !e.stopped;
-        e
-    }
-
-    // What is gathered is written out, and the reading goes on.
-    pub fn flushed(self, rt: &(impl Print + Eprint), out: &[u8; 131072]) -> Ear {
-        if self.stopped {
-            return self;
+    // What one call eats. It refuses nothing: the areas have their sizes, the state was fresh.
+    pub fn feed(&mut self, rest: &[u8]) -> Heard {
+        let mut report = [0u8; 16];
+        let Ok(f) = lent::feed(
+            self.edition,
+            self.link,
+            self.slots,
+            &mut self.store,
+            rest,
+            &mut report,
+            &mut self.area,
+        ) else {
+            return Heard {
+                eaten: 0,
+                report: None,
+            };
+        };
+        self.link = f.link;
+        if f.moved {
+            self.slots = f.slots;
         }
-        let e = self.going(true);
-        e.wrote(output::flush(rt, e.at, out))
+        self.octets = self.octets.wrapping_add(f.eaten as u64);
+        if !f.reported {
+            return Heard {
+                eaten: f.eaten,
+                report: None,
+            };
+        }
+        self.count(report[0]);
+        self.framed = self
+            .framed
+            .wrapping_add(length(report[0], report[1], f.link));
+        Heard {
+            eaten: f.eaten,
+            report: Some(report),
+        }
     }
-}
 
-// A fresh listener by an edition, with so many octets gathered for writing.
-pub fn fresh(edition: Edition, at: usize) -> Ear {
-    let r = Receiver::FRESH;
-    let link = r.link;
-    let slots = Slots::fresh();
-    Ear {
-        edition,
-        link,
-        slots,
-        octets: 0,
-        framed: 0,
-        at,
-        more: true,
-        stopped: false,
+    // The end of the input, and its report.
+    pub fn silence(&mut self) -> Option<[u8; 16]> {
+        let mut report = [0u8; 16];
+        self.framed = self.framed.wrapping_add(begun(self.link));
+        match lent::silence(self.link, self.slots, &mut report) {
+            Ok(Hushed { reported: true, .. }) => {
+                self.count(report[0]);
+                Some(report)
+            }
+            _ => None,
+        }
+    }
+
+    // One more of a report's kind.
+    fn count(&mut self, kind: u8) {
+        let k = usize::from(kind);
+        if k < 12 {
+            self.counts[k] = self.counts[k].wrapping_add(1);
+        }
     }
 }
 
 // The octets of the frame that a report ends: a header damaged by its check or its length has no data.
 fn length(kind: u8, number: u8, link: Link) -> u64 {
-    if kind == 2 {
-        if number < 3 {
-            return 8;
-        }
-    }
-    let head = link.head;
-    let n = frames::length_of(head);
-    if n == 0 {
+    if kind == 2 && number < 3 {
         return 8;
     }
-    n as u64 + 10
+    match frames::length_of(link.head) {
+        0 => 8,
+        n => u64::from(n) + 10,
+    }
 }
 
 // The octets of a frame that a silence cuts off.
 fn begun(link: Link) -> u64 {
-    let p = link.phase;
-    match p {
-        Phase::Header(n) => n as u64 + 2,
-        Phase::Data(n) => n as u64 + 8,
-        Phase::Hunting => 0,
-        Phase::Preamble => 0,
+    match link.phase {
+        Phase::Header(n) => u64::from(n) + 2,
+        Phase::Data(n) => u64::from(n) + 8,
+        Phase::Hunting | Phase::Preamble => 0,
     }
-}
-
-// One more of a report's kind.
-fn counted(kind: u8, counts: &mut [u64; 12]) {
-    let k = octets::wide(kind);
-    if k < 12 {
-        counts[k] = std::num::wrapping_add_u64(counts[k], 1);
-    }
-}
-
-// What one call eats of a piece.
-pub fn feed(
-    e: Ear,
-    rest: &[u8],
-    store: &mut [u8; 501],
-    report: &mut [u8; 16],
-    area: &mut [u8; 65536],
-    counts: &mut [u64; 12],
-) -> Ear {
-    let edition = e.edition;
-    let link = e.link;
-    let slots = e.slots;
-    let f = lent::feed(edition, link, slots, store, rest, report, area);
-    let link = f.link;
-    let slots = f.slots;
-    let mut framed = e.framed;
-    if f.reported {
-        counted(report[0], counts);
-        framed = std::num::wrapping_add_u64(framed, length(report[0], report[1], link));
-    }
-    Ear {
-        edition,
-        link,
-        slots,
-        octets: std::num::wrapping_add_u64(e.octets, f.eaten as u64),
-        framed,
-        at: e.at,
-        more: f.reported && !e.stopped,
-        stopped: e.stopped,
-    }
-}
-
-// The end of the input.
-pub fn silence(e: Ear, report: &mut [u8; 16], counts: &mut [u64; 12]) -> Ear {
-    let link = e.link;
-    let slots = e.slots;
-    let f = lent::silence(link, slots, report);
-    if f.reported {
-        counted(report[0], counts);
-    }
-    let mut g = e;
-    g.more = f.reported;
-    g.framed = std::num::wrapping_add_u64(e.framed, begun(link));
-    g
 }

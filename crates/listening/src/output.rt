@@ -1,34 +1,56 @@
 // What is told is gathered in an area, and written where half of it is full, where a piece is done, and at the end.
-// The octets gathered; `stopped`: nothing more can be written.
-#[derive(Clone, Copy)]
-pub struct Gathered {
-    pub at: usize,
-    pub stopped: bool,
+use words::Pen;
+
+// `stopped`: nothing more can be written.
+#[derive(Drop)]
+pub struct Output {
+    octets: [u8; 131072],
+    at: usize,
+    stopped: bool,
 }
 
-pub fn so_far(at: usize) -> Gathered {
-    Gathered { at, stopped: false }
-}
-
-// Writes out what is gathered; an output that takes no more is said, and the program stops.
-pub fn flush(rt: &(impl Print + Eprint), at: usize, out: &[u8; 131072]) -> Gathered {
-    match rt.write_all(show::part(out, 0, at)) {
-        Ok(()) => so_far(0),
-        Err(e) => {
-            let _ = eprintln!(rt; "standard output: {e}");
-            Gathered {
-                at: 0,
-                stopped: true,
-            }
+impl Output {
+    pub fn new() -> Output {
+        Output {
+            octets: [0; 131072],
+            at: 0,
+            stopped: false,
         }
     }
-}
 
-pub fn when_full(rt: &(impl Print + Eprint), at: usize, out: &[u8; 131072]) -> Gathered {
-    if at < 65536 {
-        return so_far(at);
+    // To write on behind what is gathered.
+    pub fn pen(&mut self) -> Pen<'_> {
+        let at = self.at;
+        Pen::new(&mut self.octets, at)
     }
-    flush(rt, at, out)
+
+    pub fn stopped(&self) -> bool {
+        self.stopped
+    }
+
+    // Gathered up to this place.
+    pub fn keep(&mut self, at: usize) {
+        self.at = at;
+    }
+
+    // Writes out what is gathered; an output that takes no more is said, and the program stops.
+    pub fn flush(&mut self, rt: &(impl Print + Eprint)) {
+        if !self.stopped {
+            if let Err(e) = rt.write_all(show::part(&self.octets, 0, self.at)) {
+                let _ = eprintln!(rt; "standard output: {e}");
+                self.stopped = true;
+            }
+        }
+        self.at = 0;
+    }
+
+    // Gathered up to this place, and written where that is half of the area.
+    pub fn told(&mut self, rt: &(impl Print + Eprint), at: usize) {
+        self.at = at;
+        if 65536 <= at {
+            self.flush(rt);
+        }
+    }
 }
 
 // Octets to standard error; all that is said there is plain text.
@@ -36,12 +58,4 @@ pub fn aside(rt: &impl Eprint, s: &[u8]) {
     if let Ok(t) = str::from_utf8(s) {
         let _ = rt.eprint(t);
     }
-}
-
-// A table begins with its first line.
-pub fn start(csv: bool, out: &mut [u8; 131072]) -> usize {
-    if csv {
-        return lines::table::head(out, 0);
-    }
-    0
 }

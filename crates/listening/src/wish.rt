@@ -4,66 +4,49 @@ use std::env::{Env, FillError};
 use std::fs;
 use std::fs::Files;
 
-// `later`: the later edition, not that of 1995; `file`: the number of the argument that names the file, 0 for standard input.
+// `file`: the number of the argument that names the file; none for standard input.
 #[derive(Clone, Copy)]
 pub struct Wish {
     pub csv: bool,
     pub octets: bool,
-    pub later: bool,
-    pub file: usize,
-    pub wrong: bool,
+    pub edition: Edition,
+    pub file: Option<usize>,
 }
 
 impl Wish {
-    pub fn edition(self) -> Edition {
-        if self.later {
-            return Edition::Later;
+    // One word more; false where it is wrong. One that is longer than its area has no word, but its first octet.
+    fn word(&mut self, i: usize, buf: &[u8; 4096], n: usize) -> bool {
+        match show::part(buf, 0, n) {
+            b"--csv" => self.csv = true,
+            b"--octets" => self.octets = true,
+            b"--later" => self.edition = Edition::Later,
+            _ if buf[0] == b'-' || self.file.is_some() => return false,
+            _ => self.file = Some(i),
         }
-        Edition::First
+        true
     }
 }
 
-// One that is longer than its area has no word, but its first octet.
-fn word(w: Wish, i: usize, buf: &[u8; 4096], n: usize) -> Wish {
-    let s = show::part(buf, 0, n);
-    let mut v = w;
-    if s == b"--csv".as_slice() {
-        v.csv = true;
-        return v;
-    }
-    if s == b"--octets".as_slice() {
-        v.octets = true;
-        return v;
-    }
-    if s == b"--later".as_slice() {
-        v.later = true;
-        return v;
-    }
-    if buf[0] == 45 || w.file != 0 {
-        v.wrong = true;
-        return v;
-    }
-    v.file = i;
-    v
-}
-
-pub fn read(rt: &impl Env) -> Wish {
+// None where a word is wrong.
+pub fn read(rt: &impl Env) -> Option<Wish> {
     let mut w = Wish {
         csv: false,
         octets: false,
-        later: false,
-        file: 0,
-        wrong: false,
+        edition: Edition::First,
+        file: None,
     };
     for i in 1..usize::MAX {
         let mut buf = [0u8; 4096];
-        match rt.arg(i, &mut buf) {
-            Ok(n) => w = word(w, i, &buf, n),
-            Err(FillError::TooLong) => w = word(w, i, &buf, 0),
-            Err(FillError::NotPresent) => return w,
+        let n = match rt.arg(i, &mut buf) {
+            Ok(n) => n,
+            Err(FillError::TooLong) => 0,
+            Err(FillError::NotPresent) => break,
+        };
+        if !w.word(i, &buf, n) {
+            return None;
         }
     }
-    w
+    Some(w)
 }
 
 pub fn say(rt: &impl Eprint, s: &str) {

@@ -2,15 +2,17 @@
 use Prim.Native.Nat.{ℕ, zero, suc, ◌+◌, ◌≤◌, ◌<◌}
 use native.Mathlib.Numerals.{add-one}
 use native.Mathlib.Omega.{arith}
-use mathlib.Core.Bool.{Bool, true, false}
+use mathlib.Core.Bool.{Bool, true, false, ◌&&◌, beq}
 use mathlib.Core.List.{List, [], ◌∷◌}
 use mathlib.Core.Logic.{◌↔◌}
 use mathlib.Core.Path.{◌≡◌, refl, ap}
 use lib.Dec.{eqb, lit<}
+use Rattle.std.specs.Cmp.Lexicographic.{pointwise}
+use Rattle.std.specs.Prelude.{nat_eq}
 use lib.ListN.{length, get_or, drop, drop_of_length-le}
 use lib.Seq.{drop-cons}
 use borrow.Author.Tests.{eqb-true, eq-eqb, ne_eqb}
-use Rattle.octets.specs.Choice.{given, pick_so, not_so}
+use Rattle.octets.specs.Choice.{pick, given, pick_so, not_so}
 use Rattle.octets.specs.Every.{octets_none, octets_more}
 use Rattle.octets.specs.Reading.{Octets}
 use Rattle.npdu.specs.Address.{absent, part_address, source_of, destination_of, same_octets, same_fields, same_address, shown_address, settled, gives, gives_source, gives_destination, AddressFits, Giver}
@@ -19,6 +21,7 @@ use Rattle.npdu.specs.Layout.{zeros, cut, shown}
 use Rattle.npdu.specs.Valid.{PartValid}
 use Rattle.npdu.specs.declared.Address.{Address}
 use Rattle.npdu.specs.declared.Npdu.{Npdu}
+use Rattle.npdu.specs.declared.TheConstants.Address.{NONE}
 use Rattle.npdu.proofs.Sizes.{fault_here}
 use Rattle.npdu.proofs.Trips.{rules_fine}
 
@@ -236,3 +239,34 @@ source_exactly a f = (source_giver a f, source_given a)
 
 pub destination_exactly : (a : Address) → AddressFits a → (gives_destination a ≡ true) ↔ Giver destination_of a
 destination_exactly a f = (destination_giver a f, destination_given a)
+
+-- ---- the tests are the library's equality
+
+and_pick : (p q : Bool) → (p && q) ≡ pick p q false
+and_pick true q = refl
+and_pick false q = refl
+
+pub same_octets_is : (x y : List ℕ) → pointwise nat_eq x y ≡ same_octets x y
+unfolding same_octets
+same_octets_is [] [] = refl
+same_octets_is [] (y ∷ ys) = refl
+same_octets_is (x ∷ xs) [] = refl
+same_octets_is (x ∷ xs) (y ∷ ys) = rw (same_octets_is xs ys) (and_pick (eqb x y) (same_octets xs ys))
+
+same_flags : (p q x : Bool) → (beq p q && x) ≡ given p (given q x false) (given q false x)
+unfolding given
+same_flags true true x = refl
+same_flags true false x = refl
+same_flags false true x = refl
+same_flags false false x = refl
+
+pub same_address_is : (a b : Address) → (beq a.present b.present && (eqb a.network b.network && (eqb a.length b.length && pointwise nat_eq a.octets b.octets))) ≡ same_address a b
+unfolding same_address same_fields
+same_address_is a b =
+    let o = same_octets a.octets b.octets in
+    rw (same_octets_is a.octets b.octets, and_pick (eqb a.length b.length) o, and_pick (eqb a.network b.network) (pick (eqb a.length b.length) o false)) (same_flags a.present b.present _)
+
+-- no address, as the code names it
+pub none_absent : NONE ≡ absent
+unfolding absent
+none_absent = refl

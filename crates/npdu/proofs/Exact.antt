@@ -15,11 +15,8 @@ use Rattle.octets.specs.Reading.{oct, Octets}
 use Rattle.npdu.specs.Exact.{Followed, Reads, ValidFirst, encode_all, accepted}
 use Rattle.npdu.specs.Layout.{version, control_of, part_octets, hop_octets, message_octets, parts_octets, tail_octets, encode, shown}
 use Rattle.npdu.specs.Valid.{Ruled, Kept}
-use Rattle.npdu.specs.Reading.{message_bit, dest_bit, source_bit, sixth_bit, fourth_bit, part_if, tail_at, ended, joined, after_tail, after_source, after_dest, after_version, read_npdu}
+use Rattle.npdu.specs.Reading.{Reading, Part, Tail, message_bit, dest_bit, source_bit, sixth_bit, fourth_bit, part_if, tail_at, ended, joined, after_tail, after_source, after_dest, after_version, read_npdu}
 use Rattle.npdu.specs.declared.Npdu.{Npdu}
-use Rattle.npdu.specs.declared.Reading.{Reading}
-use Rattle.npdu.specs.declared.part.Part.{Part}
-use Rattle.npdu.specs.declared.tail.Tail.{Tail}
 use Rattle.npdu.proofs.Control.{control_bits, control_back}
 use Rattle.npdu.proofs.Refusing.{Read, refused_not, past}
 use Rattle.npdu.proofs.Parts.{shown_part, part_if_reads, PartStands, part_if_sound}

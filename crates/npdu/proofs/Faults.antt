@@ -14,12 +14,11 @@ use Rattle.octets.specs.Has.{all_has}
 use Rattle.npdu.specs.Exact.{accepted}
 use Rattle.npdu.specs.Fault.{part_rules, part_fault, sooner, fault_of}
 use Rattle.npdu.specs.Layout.{version, control_of, part_laid, part_octets, parts_octets, tail_octets, encode}
-use Rattle.npdu.specs.Reading.{read_npdu}
+use Rattle.npdu.specs.Reading.{Reading, read_npdu}
 use Rattle.npdu.specs.Rows.{Which, present_at, network_at, length_at, greatest, least, NetworkIn, LengthIn, before, Reached, NetworkBroken, LengthBroken}
 use Rattle.npdu.specs.Rows.Which.{destination, source}
 use Rattle.npdu.specs.Valid.{PartValid, Ruled, Kept}
 use Rattle.npdu.specs.declared.Npdu.{Npdu}
-use Rattle.npdu.specs.declared.Reading.{Reading}
 use Rattle.npdu.proofs.Exact.{head_reads}
 use Rattle.npdu.proofs.Rows.{gives_network, gives_length}
 use Rattle.npdu.proofs.Sizes.{fault_here}

@@ -12,10 +12,7 @@ use Rattle.octets.specs.Choice.{given, non}
 use Rattle.octets.specs.Front.{Front, front_same, front_pick, front_octet, front_reach}
 use Rattle.octets.specs.Reading.{oct, be16}
 use Rattle.npdu.specs.Layout.{version, cut}
-use Rattle.npdu.specs.Reading.{message_bit, dest_bit, source_bit, sixth_bit, fourth_bit, no_part, address_of, part_len, part_net, part_of, part_if, ended, vendor_at, message_at, tail_at, refused_by, after_tail, after_source, after_dest, after_version, read_npdu}
-use Rattle.npdu.specs.declared.Reading.{Reading}
-use Rattle.npdu.specs.declared.part.Part.{Part}
-use Rattle.npdu.specs.declared.tail.Tail.{Tail}
+use Rattle.npdu.specs.Reading.{Reading, Part, Tail, message_bit, dest_bit, source_bit, sixth_bit, fourth_bit, no_part, address_of, part_len, part_net, part_of, part_if, ended, vendor_at, message_at, tail_at, refused_by, after_tail, after_source, after_dest, after_version, read_npdu}
 
 module _ (s t : List ℕ) where
   abbrev FrontPart : Part → Part → Type 0

@@ -13,3 +13,5 @@ pub mod Views
 pub mod Rows
 pub mod Faults
 pub mod AddressLaws
+pub mod Steps
+pub mod Sides

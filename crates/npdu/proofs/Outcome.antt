@@ -11,10 +11,7 @@ use borrow.Author.Tests.{leb-false}
 use Rattle.octets.specs.Choice.{non, pick_cases, pick_case, given_cases}
 use Rattle.octets.specs.Reading.{oct, be16, refuse}
 use Rattle.npdu.specs.Layout.{version}
-use Rattle.npdu.specs.Reading.{message_bit, dest_bit, source_bit, sixth_bit, fourth_bit, no_part, part_len, part_net, part_of, part_if, ended, vendor_at, message_at, tail_at, refused_by, joined, after_tail, after_source, after_dest, after_version, read_npdu}
-use Rattle.npdu.specs.declared.Reading.{Reading}
-use Rattle.npdu.specs.declared.part.Part.{Part}
-use Rattle.npdu.specs.declared.tail.Tail.{Tail}
+use Rattle.npdu.specs.Reading.{Reading, Part, Tail, message_bit, dest_bit, source_bit, sixth_bit, fourth_bit, no_part, part_len, part_net, part_of, part_if, ended, vendor_at, message_at, tail_at, refused_by, joined, after_tail, after_source, after_dest, after_version, read_npdu}
 
 abbrev Number : ℕ → Type 0
 Number n = (10 ≤ n) × (n ≤ 14)

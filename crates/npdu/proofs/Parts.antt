@@ -13,8 +13,7 @@ use Rattle.octets.specs.Has.{Has, has_take, has_cut, has_bound}
 use Rattle.octets.specs.Reading.{oct, be16, Octets}
 use Rattle.npdu.specs.Layout.{zeros, cut, part_laid, part_octets}
 use Rattle.npdu.specs.Valid.{PartValid}
-use Rattle.npdu.specs.Reading.{no_part, address_of, part_len, part_net, part_of, part_if}
-use Rattle.npdu.specs.declared.part.Part.{Part}
+use Rattle.npdu.specs.Reading.{Part, no_part, address_of, part_len, part_net, part_of, part_if}
 
 -- an address cut to its length
 pub take_cut : (len : ℕ) (x : List ℕ) → len ≤ length x → take len (cut len x) ≡ take len x

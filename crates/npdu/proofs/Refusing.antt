@@ -6,8 +6,7 @@ use lib.Dec.{eqb}
 use borrow.Author.Tests.{eqb-true, eqb-false}
 use Rattle.octets.specs.Choice.{non, by_test}
 use Rattle.octets.specs.Reading.{refuse}
-use Rattle.npdu.specs.Reading.{refused_by}
-use Rattle.npdu.specs.declared.Reading.{Reading}
+use Rattle.npdu.specs.Reading.{Reading, refused_by}
 
 module _ (P : Reading → Type 0) where
   abbrev pub Read : Reading → Type 0

@@ -15,13 +15,11 @@ use Rattle.octets.specs.Has.{Has, has_append, has_left, has_right, all_has}
 use Rattle.octets.specs.Reading.{oct, Octets}
 use Rattle.npdu.specs.Exact.{accepted}
 use Rattle.npdu.specs.Layout.{version, control_of, part_octets}
-use Rattle.npdu.specs.Reading.{sixth_bit, fourth_bit, part_of, part_if, refused_by, after_source, after_dest, after_version, read_npdu}
+use Rattle.npdu.specs.Reading.{Reading, Part, sixth_bit, fourth_bit, part_of, part_if, refused_by, after_source, after_dest, after_version, read_npdu}
 use Rattle.npdu.specs.Rows.{Begins, EndsEarly, OtherVersion, BitSet, Which, before, least, greatest, NetworkIn, LengthIn, Reached, NetworkOut, LengthOut}
 use Rattle.npdu.specs.Rows.Which.{destination, source}
 use Rattle.npdu.specs.Valid.{Kept}
 use Rattle.npdu.specs.declared.Npdu.{Npdu}
-use Rattle.npdu.specs.declared.Reading.{Reading}
-use Rattle.npdu.specs.declared.part.Part.{Part}
 use Rattle.npdu.proofs.Control.{control_bits}
 use Rattle.npdu.proofs.Exact.{npdu_exactly, reads_written, split}
 use Rattle.npdu.proofs.Judged.{judged}

@@ -1,8 +1,8 @@
 -- How many octets are laid, and what a header without a fault keeps to.
-use Prim.Native.Nat.{ℕ, ◌≤◌}
+use Prim.Native.Nat.{ℕ, ◌≤◌, ◌<◌, ◌/◌, ◌%◌}
 use native.Mathlib.Omega.{arith}
 use mathlib.Core.Bool.{Bool, true, false}
-use mathlib.Core.List.{List}
+use mathlib.Core.List.{List, [], ◌∷◌}
 use mathlib.Core.Path.{◌≡◌, refl}
 use lib.Dec.{ltb, eqb}
 use lib.ListN.{length, length-append}
@@ -83,3 +83,7 @@ tail_length h = rw (length-append, hop_length, message_length)
 pub head_length : (h : Npdu) → Ruled h → Kept h → length (encode h) ≡ size_of h
 unfolding encode size_of
 head_length h r k = let a = parts_length h r k in let b = tail_length h in simp length-append (omega (arith, a, b))
+
+-- a number of two octets, as the library lays it and as a layout says it
+pub two_octets : (n : ℕ) → n < 65536 → n / 256 % 256 ∷ n % 256 ∷ [] ≡ n / 256 ∷ n % 256 ∷ []
+two_octets n h = let e : n / 256 % 256 ≡ n / 256 = omega arith in rw e

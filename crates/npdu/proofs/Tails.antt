@@ -11,8 +11,7 @@ use Rattle.octets.specs.Choice.{pick, given, pick_cases, by_test}
 use Rattle.octets.specs.Has.{Has}
 use Rattle.octets.specs.Reading.{oct, Octets}
 use Rattle.npdu.specs.Layout.{hop_octets, message_laid, message_octets}
-use Rattle.npdu.specs.Reading.{ended, vendor_at, message_at, tail_at}
-use Rattle.npdu.specs.declared.tail.Tail.{Tail}
+use Rattle.npdu.specs.Reading.{Tail, ended, vendor_at, message_at, tail_at}
 
 -- the vendor of a message of this type
 abbrev shown_vendor : ℕ → ℕ → ℕ

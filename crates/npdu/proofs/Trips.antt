@@ -3,20 +3,18 @@ use Prim.Native.Nat.{ℕ}
 use native.Mathlib.Omega.{arith}
 use mathlib.Core.Bool.{Bool, true, false}
 use mathlib.Core.List.{List}
+use Rattle.std.specs.Prelude.{Ok}
 use mathlib.Core.Path.{◌≡◌, refl, sym, ◌∙◌}
 use lib.ListN.{length, drop}
 use borrow.Author.Tests.{ne_eqb, le-ltb}
 use Rattle.octets.specs.Choice.{given}
-use Rattle.octets.specs.Laid.{Laid, laid_one, laid_wrote}
-use Rattle.octets.specs.declared.Written.{Written}
-use Rattle.octets.specs.declared.Written.TheVariants.{Wrote}
+use Rattle.octets.specs.Laid.{Written, Laid, laid_one, laid_wrote}
 use Rattle.npdu.specs.Fault.{part_rules, part_fault, sooner, fault_of}
 use Rattle.npdu.specs.Exact.{accepted}
 use Rattle.npdu.specs.Layout.{encode, shown}
 use Rattle.npdu.specs.Valid.{PartValid, Ruled, Kept}
-use Rattle.npdu.specs.Reading.{read_npdu}
+use Rattle.npdu.specs.Reading.{Reading, read_npdu}
 use Rattle.npdu.specs.declared.Npdu.{Npdu}
-use Rattle.npdu.specs.declared.Reading.{Reading}
 use Rattle.npdu.proofs.Exact.{reads_written}
 use Rattle.npdu.proofs.Sizes.{fault_none}
 
@@ -34,7 +32,7 @@ ruled_fine h r =
     rw (le-ltb 3 h.priority r.urgency, rules_fine h.dest h.dnet h.dlen 0 65535 r.destination) (rules_fine h.source h.snet h.slen 1 65534 r.origin)
 
 -- "Fields of an absent part, and address octets past the length, aren't looked at and are read as 0": what was written reads back as what it shows
-pub written_reads : (h : Npdu) (n : ℕ) (area later : List ℕ) → Kept h → Laid (fault_of h) (encode h) area (Wrote n) later → read_npdu later ≡ accepted n (shown h)
+pub written_reads : (h : Npdu) (n : ℕ) (area later : List ℕ) → Kept h → Laid (fault_of h) (encode h) area (Ok n) later → read_npdu later ≡ accepted n (shown h)
 written_reads h n area later k l =
     let w = laid_wrote (fault_of h) n (encode h) area later l in
     rw (w.2, w.1) (reads_written h (drop (length (encode h)) area) (fault_none h w.0) k)

@@ -12,15 +12,12 @@ use Rattle.octets.specs.Choice.{given, non, given_cases, pick_cases, by_test}
 use Rattle.octets.specs.Has.{Has, has_append, has_bound}
 use Rattle.octets.specs.Reading.{oct, be16, refuse, Octets}
 use Rattle.npdu.specs.Layout.{version, control_of, part_octets}
-use Rattle.npdu.specs.Reading.{message_bit, dest_bit, source_bit, sixth_bit, fourth_bit, no_part, part_len, part_net, part_of, part_if, ended, vendor_at, message_at, tail_at, refused_by, joined, after_tail, after_source, after_dest, after_version, read_npdu}
+use Rattle.npdu.specs.Reading.{Reading, Part, Tail, message_bit, dest_bit, source_bit, sixth_bit, fourth_bit, no_part, part_len, part_net, part_of, part_if, ended, vendor_at, message_at, tail_at, refused_by, joined, after_tail, after_source, after_dest, after_version, read_npdu}
 use Rattle.npdu.specs.Rows.{Which, before, least, greatest, Reached}
 use Rattle.npdu.specs.Rows.Which.{destination, source}
 use Rattle.npdu.specs.Size.{part_size}
 use Rattle.npdu.specs.Valid.{Kept}
 use Rattle.npdu.specs.declared.Npdu.{Npdu}
-use Rattle.npdu.specs.declared.Reading.{Reading}
-use Rattle.npdu.specs.declared.part.Part.{Part}
-use Rattle.npdu.specs.declared.tail.Tail.{Tail}
 use Rattle.npdu.proofs.Control.{control_back}
 use Rattle.npdu.proofs.Parts.{PartStands, part_if_sound}
 use Rattle.npdu.proofs.Sizes.{part_length}

@@ -2,9 +2,8 @@
 use Rattle.std.specs.Prelude.{ℕ, List, ◌++◌, ◌≡◌, drop}
 use Rattle.npdu.specs.Layout.{encode}
 use Rattle.npdu.specs.Valid.{Valid}
-use Rattle.npdu.specs.Reading.{read_npdu}
+use Rattle.npdu.specs.Reading.{Reading, read_npdu}
 use Rattle.npdu.specs.declared.Npdu.{Npdu}
-use Rattle.npdu.specs.declared.Reading.{Reading}
 
 pub record Followed : Type 0 where
   pub head : Npdu

@@ -1,13 +1,41 @@
 -- The reading of the network header (clause 6.2): "Octets are judged left to right and a missing octet when it is reached".
 -- Rows 10 to 14 of "Numbers given back", "NPDU: ends early; version; bits 6 or 4; DLEN/SLEN; DNET/SNET", are the chains below: each `reach` is a 10,
 -- each `refuse` names the row that its test breaks, and the first of them in octet order that holds is the answer.
-use Rattle.std.specs.Prelude.{ℕ, ◌+◌, ◌/◌, ◌%◌, Bool, false, List, ltb, eqb, drop}
+use Rattle.std.specs.Prelude.{ℕ, ◌+◌, ◌/◌, ◌%◌, ◌<◌, ◌≤◌, ◌≡◌, Bool, false, List, Result, Ok, Err, ltb, eqb, drop, length}
 use Rattle.octets.specs.Choice.{pick, given, non}
 use Rattle.octets.specs.Reading.{oct, be16, reach, refuse}
+use Rattle.octets.specs.Refusal.{number_of}
+use Rattle.octets.specs.declared.refusal.Refusal.{Refusal}
+use Rattle.octets.specs.declared.refusal.Refusal.TheVariants.{NpduEndsEarly}
 use Rattle.npdu.specs.Layout.{version, zeros, cut}
-use Rattle.npdu.specs.declared.Reading.{Reading}
-use Rattle.npdu.specs.declared.part.Part.{Part}
-use Rattle.npdu.specs.declared.tail.Tail.{Tail}
+use Rattle.npdu.specs.declared.Npdu.{Npdu}
+use Rattle.npdu.specs.declared.Header.{Header}
+use Rattle.npdu.specs.declared.part.Part as Parts
+use Rattle.npdu.specs.declared.tail.Tail as Tails
+
+-- ---- what is read: a refusal's number, or 0 with the place after it and its fields
+
+-- the header
+pub record Reading : Type 0 where
+  pub refused : ℕ
+  pub next : ℕ
+  pub head : Npdu
+
+-- destination or source
+pub record Part : Type 0 where
+  pub refused : ℕ
+  pub next : ℕ
+  pub net : ℕ
+  pub len : ℕ
+  pub adr : List ℕ
+
+-- the header's end
+pub record Tail : Type 0 where
+  pub refused : ℕ
+  pub next : ℕ
+  pub hops : ℕ
+  pub kind : ℕ
+  pub vendor : ℕ
 
 -- ---- "control octet: bit 7 network message, 6 and 4 zero, 5 destination present, 3 source present, 2 reply expected, 1-0 priority"
 
@@ -174,3 +202,22 @@ read_npdu s =
     (refuse (non (eqb (oct s 0) version)) (refused_by 11)
     (reach s 1 (refused_by 10)
     (after_version s (oct s 1))))
+
+-- ---- an answer of the code as what is read
+
+-- the octet at a place, or the refusal of octets that end there or before
+abbrev pub OctetAt : List ℕ → ℕ → Result ℕ Refusal → Type 0
+OctetAt s at (Ok x) = (at < length s) × (x ≡ oct s at)
+OctetAt s at (Err r) = (length s ≤ at) × (r ≡ NpduEndsEarly)
+
+abbrev pub part_seen : Result Parts.Part Refusal → Part
+part_seen (Ok p) = record { refused = 0; next = p.next; net = p.address.network; len = p.address.length; adr = p.address.octets }
+part_seen (Err r) = no_part (number_of r) 0
+
+abbrev pub tail_seen : Result Tails.Tail Refusal → Tail
+tail_seen (Ok t) = ended 0 t.next t.hops t.kind t.vendor
+tail_seen (Err r) = ended (number_of r) 0 0 0 0
+
+abbrev pub reading_of : Result Header Refusal → Reading
+reading_of (Ok h) = record { refused = 0; next = h.next; head = h.npdu }
+reading_of (Err r) = refused_by (number_of r)

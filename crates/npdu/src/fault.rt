@@ -1,42 +1,38 @@
 // The refusal that a header to be written deserves.
 ghost use Rattle.std.specs.Prelude.{◌≡◌};
+ghost use Rattle.octets.specs.Refusal as Refusing;
 ghost use Rattle.npdu.specs.Fault.{part_fault, fault_of};
 
-use crate::Npdu;
+use crate::addresses::{destination_of, source_of};
+use crate::part::Limits;
+use crate::{Address, Npdu};
+use octets::Refusal;
 
-// A part's refusal, or 0: an absent part is not looked at.
+// A part's: an absent part is not looked at.
 #[tactic(auto, using(octets::specs::Rules::flags, octets::specs::Rules::tests), unfolding(crate::specs::Fault::part_fault, crate::specs::Fault::part_rules))]
-pub fn part_fault(here: bool, net: u16, len: u8, low: u8, top: u16) -> u8
-    ensures { result ≡ part_fault here net len low top }
+pub fn judge_part(a: Address, limits: Limits) -> Result<(), Refusal>
+    ensures { Refusing.fault_of result ≡ part_fault a.present a.network a.length limits.low limits.top }
 {
-    if here {
-        if net == 0 {
-            return 14;
-        }
-        if top < net {
-            return 14;
-        }
-        if len < low {
-            return 13;
-        }
-        if 7 < len {
-            return 13;
-        }
+    if !a.present {
+        return Ok(());
     }
-    0
+    if a.network == 0 || limits.top < a.network {
+        return Err(Refusal::NetworkNumber);
+    }
+    if a.length < limits.low || 7 < a.length {
+        return Err(Refusal::AddressLength);
+    }
+    Ok(())
 }
 
-// The header's refusal, or 0: the first field in octet order that breaks a rule.
+// The header's: the first field in octet order that breaks a rule.
 #[tactic(auto, using(octets::specs::Rules::tests), unfolding(crate::specs::Fault::fault_of, crate::specs::Fault::sooner))]
-pub fn head_fault(h: Npdu) -> u8
-    ensures { result ≡ fault_of h }
+pub fn judge_head(h: Npdu) -> Result<(), Refusal>
+    ensures { Refusing.fault_of result ≡ fault_of h }
 {
     if 3 < h.priority {
-        return 12;
+        return Err(Refusal::NpduReserved);
     }
-    let f = part_fault(h.dest, h.dnet, h.dlen, 0, 65535);
-    if f != 0 {
-        return f;
-    }
-    part_fault(h.source, h.snet, h.slen, 1, 65534)
+    judge_part(destination_of(h), Limits::DESTINATION)?;
+    judge_part(source_of(h), Limits::SOURCE)
 }

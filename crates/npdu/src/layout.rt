@@ -5,18 +5,28 @@ ghost use Rattle.npdu.specs.Layout.{bit_of, control_of, part_octets, message_oct
 ghost use Rattle.npdu.specs.Fault.{fault_of};
 ghost use Rattle.npdu.specs.Size.{part_size, hop_size, message_size, parts_size, tail_size, size_of};
 
-use crate::Npdu;
+use crate::addresses::{destination_of, source_of};
+use crate::{Address, Npdu};
 
 // How many octets a part takes.
 #[tactic(auto, using(octets::specs::Rules::flags, octets::specs::Rules::tests), unfolding(crate::specs::Size::part_size))]
-fn part_size(here: bool, len: u8) -> usize
-    ensures value { result ≡ part_size here len }
+fn part_size(a: Address) -> usize
+    ensures value { result ≡ part_size a.present a.length }
     ensures small { result ≤ 258 }
 {
-    if here {
-        return 3 + (len as usize);
+    if a.present {
+        return 3 + usize::from(a.length);
     }
     0
+}
+
+// How many octets both parts take.
+#[tactic(auto, unfolding(crate::specs::Size::parts_size))]
+fn parts_size(h: Npdu) -> usize
+    ensures value { result ≡ parts_size h }
+    ensures small { result ≤ 516 }
+{
+    part_size(destination_of(h)) + part_size(source_of(h))
 }
 
 // How many octets the hop count takes.
@@ -25,10 +35,7 @@ fn hop_size(here: bool) -> usize
     ensures value { result ≡ hop_size here }
     ensures small { result ≤ 1 }
 {
-    if here {
-        return 1;
-    }
-    0
+    usize::from(here)
 }
 
 // How many octets a message's type takes, with its vendor.
@@ -37,24 +44,18 @@ fn message_size(here: bool, kind: u8) -> usize
     ensures value { result ≡ message_size here kind }
     ensures small { result ≤ 3 }
 {
-    if here {
-        if kind < 128 {
-            return 1;
-        }
-        return 3;
+    if !here {
+        return 0;
     }
-    0
+    if kind < 128 { 1 } else { 3 }
 }
 
 // How many octets the header takes.
-#[tactic(auto, unfolding(crate::specs::Size::parts_size, crate::specs::Size::size_of, crate::specs::Size::tail_size))]
+#[tactic(auto, unfolding(crate::specs::Size::size_of, crate::specs::Size::tail_size))]
 pub fn size(h: Npdu) -> usize
     ensures { result ≡ size_of h }
 {
-    2 + part_size(h.dest, h.dlen)
-        + part_size(h.source, h.slen)
-        + hop_size(h.dest)
-        + message_size(h.message, h.kind)
+    2 + parts_size(h) + hop_size(h.dest) + message_size(h.message, h.kind)
 }
 
 // A bit of this weight, if it is set.
@@ -63,10 +64,7 @@ fn bit(b: bool, w: u8) -> u8
     ensures value { result ≡ bit_of b w }
     ensures small { result ≤ w }
 {
-    if b {
-        return w;
-    }
-    0
+    if b { w } else { 0 }
 }
 
 // The control octet.
@@ -80,16 +78,14 @@ fn control(h: Npdu) -> u8
 
 // A part at a place, if it is present.
 #[tactic(auto, using(octets::specs::Rules::flags, octets::specs::Splice::splice_nil), unfolding(crate::specs::Layout::part_laid, crate::specs::Layout::part_octets))]
-fn put_part(out: &mut [u8], at: usize, here: bool, net: u16, len: u8, adr: [u8; 7])
-    requires { (here ≡ true → len ≤ 7) × (at + part_size here len ≤ length out.old) }
-    ensures { out.new ≡ splice out.old at (part_octets here net len adr) }
+fn put_part(out: &mut [u8], at: usize, a: Address)
+    requires { (a.present ≡ true → a.length ≤ 7) × (at + part_size a.present a.length ≤ length out.old) }
+    ensures { out.new ≡ splice out.old at (part_octets a.present a.network a.length a.octets) }
 {
-    if here {
-        let k = len as usize;
-        out[at] = (net / 256) as u8;
-        out[at + 1] = (net % 256) as u8;
-        out[at + 2] = len;
-        octets::copy(&adr[..k], out, at + 3);
+    if a.present {
+        octets::copy(&a.network.to_be_bytes(), out, at);
+        out[at + 2] = a.length;
+        octets::copy(&a.octets[..usize::from(a.length)], out, at + 3);
     }
 }
 
@@ -100,13 +96,10 @@ fn put_message(out: &mut [u8], at: usize, here: bool, kind: u8, vendor: u16)
     ensures { out.new ≡ splice out.old at (message_octets here kind vendor) }
 {
     if here {
-        if kind < 128 {
-            out[at] = kind;
-            return;
-        }
         out[at] = kind;
-        out[at + 1] = (vendor / 256) as u8;
-        out[at + 2] = (vendor % 256) as u8;
+        if 128 <= kind {
+            octets::copy(&vendor.to_be_bytes(), out, at + 1);
+        }
     }
 }
 
@@ -116,11 +109,9 @@ fn put_parts(out: &mut [u8], at: usize, h: Npdu)
     requires { (fault_of h ≡ 0) × (at + parts_size h ≤ length out.old) }
     ensures { out.new ≡ splice out.old at (parts_octets h) }
 {
-    let da = h.dadr;
-    let sa = h.sadr;
-    let k = part_size(h.dest, h.dlen);
-    put_part(out, at, h.dest, h.dnet, h.dlen, da);
-    put_part(out, at + k, h.source, h.snet, h.slen, sa);
+    let destination = destination_of(h);
+    put_part(out, at, destination);
+    put_part(out, at + part_size(destination), source_of(h));
 }
 
 // Hop count, message type and vendor from a place on.
@@ -129,8 +120,7 @@ fn put_tail(out: &mut [u8], at: usize, h: Npdu)
     requires { at + tail_size h ≤ length out.old }
     ensures { out.new ≡ splice out.old at (tail_octets h) }
 {
-    let dest = h.dest;
-    if dest {
+    if h.dest {
         out[at] = h.hops;
         put_message(out, at + 1, h.message, h.kind, h.vendor);
         return;
@@ -144,9 +134,8 @@ pub fn put_head(out: &mut [u8], h: Npdu)
     requires { (fault_of h ≡ 0) × (size_of h ≤ length out.old) }
     ensures { out.new ≡ splice out.old 0 (encode h) }
 {
-    let k = part_size(h.dest, h.dlen) + part_size(h.source, h.slen);
     out[0] = 1;
     out[1] = control(h);
     put_parts(out, 2, h);
-    put_tail(out, 2 + k, h);
+    put_tail(out, 2 + parts_size(h), h);
 }

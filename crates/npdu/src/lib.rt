@@ -10,11 +10,15 @@ mod tail;
 
 ghost use Rattle.std.specs.Prelude.{◌≡◌};
 ghost use Rattle.octets.specs.Laid.{Laid};
+ghost use Rattle.octets.specs.Refusal.{numbered};
 ghost use Rattle.npdu.specs.Layout.{encode};
 ghost use Rattle.npdu.specs.Fault.{fault_of};
-ghost use Rattle.npdu.specs.Reading.{read_npdu};
+ghost use Rattle.npdu.specs.Reading.{read_npdu, reading_of};
+
+use octets::Refusal;
 
 // A header's fields. Those of an absent part, and address octets past the length, are read as 0 and are not looked at in writing.
+// Stays: (a) flags with values beside them: npdu/Trips `written_reads` and demands `NetworkWritesBack` speak of headers with any values in an absent part, which no writer looks at.
 #[derive(Clone, Copy)]
 pub struct Npdu {
     pub message: bool,
@@ -33,8 +37,29 @@ pub struct Npdu {
     pub vendor: u16,
 }
 
+impl Npdu {
+    // A header of zeros: no address, no network message, no reply expected.
+    pub const ZERO: Npdu = Npdu {
+        message: false,
+        dest: false,
+        source: false,
+        reply: false,
+        priority: 0,
+        dnet: 0,
+        dlen: 0,
+        dadr: [0; 7],
+        snet: 0,
+        slen: 0,
+        sadr: [0; 7],
+        hops: 0,
+        kind: 0,
+        vendor: 0,
+    };
+}
+
 // An address on a network: a header's source or its destination. Without one, present is false and all else 0.
-#[derive(Clone, Copy)]
+// Stays: (a) a flag with values beside it: npdu/Address `settled` and state/Judging `slot_fair` tell absent addresses with other octets, which a state area can hold, from none.
+#[derive(Clone, Copy, PartialEq, Eq)]
 pub struct Address {
     pub present: bool,
     pub network: u16,
@@ -52,43 +77,34 @@ impl Address {
     };
 }
 
-// What reading gives: a refusal number, or 0 with the header and the place where what follows it begins.
+// What reading gives: the header, and the place where what follows it begins.
 #[derive(Clone, Copy)]
-pub struct Reading {
-    pub refused: u8,
+pub struct Header {
+    pub npdu: Npdu,
     pub next: usize,
-    pub head: Npdu,
 }
 
 // The header at the front of these octets, or 10 to 14. Each octet is reached before it is judged.
 #[tactic(auto, using(octets::specs::Rules::tests), unfolding(crate::specs::Reading::read_npdu))]
-pub fn read(s: &[u8]) -> Reading
-    ensures { result ≡ read_npdu s.now }
+pub fn read(s: &[u8]) -> Result<Header, Refusal>
+    ensures { reading_of result ≡ read_npdu s.now }
 {
-    if s.len() <= 0 {
-        return head::refused_by(10);
+    if part::octet(s, 0)? != 1 {
+        return Err(Refusal::NpduVersion);
     }
-    if s[0] != 1 {
-        return head::refused_by(11);
-    }
-    if s.len() <= 1 {
-        return head::refused_by(10);
-    }
-    head::after_version(s, s[1])
+    let control = part::octet(s, 1)?;
+    head::after_version(s, control)
 }
 
 // The header's octets at the front of a lent area, or the number of the first field that breaks a rule (12, 14, 13), or 61.
-pub fn write(h: Npdu, out: &mut [u8]) -> octets::Written
-    ensures { Laid (fault_of h) (encode h) out.old result out.new }
+pub fn write(h: Npdu, out: &mut [u8]) -> Result<usize, Refusal>
+    ensures { Laid (fault_of h) (encode h) out.old (numbered result) out.new }
 {
-    let f = fault::head_fault(h);
-    if f != 0 {
-        return octets::Written::Refused(f);
-    }
+    fault::judge_head(h)?;
     let n = layout::size(h);
     if out.len() < n {
-        return octets::Written::Refused(61);
+        return Err(Refusal::TooSmall);
     }
     layout::put_head(out, h);
-    octets::Written::Wrote(n)
+    Ok(n)
 }

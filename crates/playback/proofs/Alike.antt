@@ -7,8 +7,8 @@ use Rattle.rebuild.proofs.Seen.{view_one, view_unview}
 use Rattle.collector.specs.Calls.{written, said_so}
 use Rattle.collector.specs.declared.Collector.{Collector}
 use Rattle.collector.proofs.Alike.{state_of}
+use Rattle.playback.specs.Answers.{Played}
 use Rattle.playback.specs.Calls.{Course, Comes, Plays}
-use Rattle.playback.specs.declared.Played.{Played}
 
 pub plays_one : (c : Collector) (report area o : List ℕ) {report₁ area₁ report₂ area₂ : List ℕ} {r₁ r₂ : Played} → Plays c report area o r₁ report₁ area₁ → Plays c report area o r₂ report₂ area₂
     → (r₁ ≡ r₂) × (report₁ ≡ report₂) × (area₁ ≡ area₂)

@@ -12,7 +12,7 @@ use Rattle.frames.specs.declared.Outcome.{Outcome}
 use Rattle.frames.specs.declared.Outcome.TheVariants.{Quiet, Frame, Damage}
 use Rattle.apdu.specs.declared.Edition.{Edition}
 use Rattle.frames.specs.declared.Receiver.{Receiver}
-use Rattle.frames.specs.declared.Fed.{Fed}
+use Rattle.frames.specs.Answers.{Fed}
 use Rattle.frames.specs.Step.{step_of, reports_of, fed_at, feed_from}
 use Rattle.frames.proofs.Laws.{sound_step, opened}
 use Rattle.trunk.specs.Reading.{Out}

@@ -4,10 +4,12 @@ use native.Mathlib.Omega.{arith}
 use native.Mathlib.Numerals.{add-one}
 use mathlib.Core.Path.{◌≡◌, refl, sym, ap, ◌∙◌}
 use mathlib.Core.List.{List, [], ◌∷◌, ◌++◌, append_assoc}
-use lib.ListN.{length, take, drop, set, length-set}
+use lib.ListN.{length, take, drop, set, length-set, length-drop}
+use Rattle.std.proofs.lemmas.List.{get_or-drop}
 use lib.Seq.{drop-cons, take-suc-set, length-take-le}
 use Rattle.octets.specs.Reading.{oct}
 use Rattle.runs.specs.Run.{octs}
+use Rattle.collector.proofs.Content.{part_rest}
 use Rattle.playback.specs.Layout.{record_size, record_octets}
 use Rattle.playback.specs.Lent.{OctetFirst, Gathered}
 
@@ -53,19 +55,29 @@ gather_first o out F l =
       front = front_more o out 0 0 l F.whole F.kind F.third F.fourth refl;
     }
 
-pub gather_more : (o out : List ℕ) (n at : ℕ) → Gathered o out n → at ≡ record_size * n → n < length out → 4 ≤ length o - at → oct o at ≡ 0 → oct o (at + 2) ≡ 0 → oct o (at + 3) ≡ 0
-    → Gathered o (set out n (oct o (at + 1))) (n + 1)
-gather_more o out n at G e l h k a b =
+-- the octets behind those gathered, as the code lends them
+abbrev left : List ℕ → ℕ → List ℕ
+left o at = take (length o - at) (drop at o)
+
+left_at : (o : List ℕ) (at i : ℕ) → oct (left o at) i ≡ oct o (at + i)
+left_at o at i = ap (λ (s : List ℕ). oct s i) (part_rest o at) ∙ get_or-drop at o i 0
+
+pub gather_more : (o out : List ℕ) (n : ℕ) → Gathered o out n → n < length out
+    → (let s = left o (record_size * n) in 4 ≤ length s → oct s 0 ≡ 0 → oct s 2 ≡ 0 → oct s 3 ≡ 0 → Gathered o (set out n (oct s 1)) (n + 1))
+gather_more o out n G l h k a b =
+    let at = record_size * n in
+    let r : length (drop at o) ≡ length o - at = length-drop at o in
+    let m : 4 ≤ length (drop at o) = rw (part_rest o at) at h in
     let within : at + 4 ≤ length o = omega (arith, G.within) in
-    let here : o ≡ record_octets (octs (take n out)) ++ drop at o = rw e G.front in
+    let here : o ≡ record_octets (octs (take n out)) ++ drop at o = G.front in
     let z : at + 4 ≡ record_size * (n + 1) = omega arith in
-    record {
+    let e : at + 0 ≡ at = omega arith in
+    let kind : oct o at ≡ 0 = sym (ap (oct o) e) ∙ sym (left_at o at 0) ∙ k in
+    let third : oct o (at + 2) ≡ 0 = sym (left_at o at 2) ∙ a in
+    let fourth : oct o (at + 3) ≡ 0 = sym (left_at o at 3) ∙ b in
+    rw (left_at o at 1) (record {
       some = omega arith;
       few = simp length-set (omega arith);
       within = omega arith;
-      front = rw z at (front_more o out n at l within k a b here);
-    }
-
--- the values gathered are as many
-pub gathered_count : (o out : List ℕ) (k : ℕ) → Gathered o out k → k ≡ length (take k out)
-gathered_count o out k G = sym (length-take-le k out G.few)
+      front = rw z at (front_more o out n at l within kind third fourth here);
+    })

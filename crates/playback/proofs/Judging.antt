@@ -16,10 +16,10 @@ use Rattle.rebuild.specs.declared.Slots.{Slots}
 use Rattle.reports.specs.Layout.{report_size}
 use Rattle.collector.specs.Calls.{passing, feed_refusal}
 use Rattle.collector.specs.Lent.{over}
+use Rattle.playback.specs.Answers.{Went}
 use Rattle.playback.specs.Layout.{record_size}
 use Rattle.playback.specs.Calls.{barred, play_refusal, playing, Comes, Ready}
 use Rattle.playback.specs.Lent.{judged, Judges, LendsWhole, Runs, stayed, went_over, Replays}
-use Rattle.playback.specs.declared.lent.Went.{Went}
 
 -- ---- the tests, one after the other
 module _ (l : Link) (t : Slots) (s : List ℕ) (report area : ℕ) where

@@ -14,9 +14,9 @@ use Rattle.messages.specs.Slots as Messages
 use Rattle.rebuild.specs.declared.Key.{Key}
 use Rattle.collector.specs.Calls.{passing, sized, box, written, said_so, slots_of, Answered, feed_refusal}
 use Rattle.collector.specs.declared.Collector.{Collector}
+use Rattle.playback.specs.Answers.{Played}
 use Rattle.playback.specs.Layout.{record_size}
 use Rattle.playback.specs.Reading.{read_records}
-use Rattle.playback.specs.declared.Played.{Played}
 
 -- ---- an order by its own call: feeding one octet, a silence, forgetting a slot, which "writes no report" whether it answers 0 or 56
 unfoldable pub one : Edition → Order → Receiver → List (Messages.Slot Key) → List ℕ → Answered

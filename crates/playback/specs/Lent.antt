@@ -1,38 +1,35 @@
--- The call over a lent frame store, and what its parts promise: a record's order, octet records gathered, a silence, one turn of the replay.
-use Rattle.std.specs.Prelude.{ℕ, ◌*◌, ◌%◌, ◌≤◌, ◌<◌, ◌≡◌, true, false, List, ◌++◌, eqb, length, take, drop}
+-- The call over a lent frame store, and what its parts promise: a record's order, octet records gathered, one turn of the replay.
+use Rattle.std.specs.Prelude.{ℕ, Result, Ok, Err, ◌*◌, ◌%◌, ◌≤◌, ◌<◌, ◌≡◌, true, false, List, ◌++◌, eqb, length, take, drop}
 use Rattle.std.proofs.Math.Option.{Option, none, some}
 use Rattle.octets.specs.Choice.{pick}
 use Rattle.octets.specs.Reading.{oct}
+use Rattle.octets.specs.declared.refusal.Refusal.{Refusal}
+use Rattle.octets.specs.declared.refusal.Refusal.TheVariants.{BadRecord}
 use Rattle.runs.specs.Run.{Order, octs}
 use Rattle.runs.specs.Run.Event.{octet, silence}
 use Rattle.runs.specs.Run.Order.{trunk, forget}
 use Rattle.apdu.specs.declared.Edition.{Edition}
 use Rattle.frames.specs.declared.Link.{Link}
 use Rattle.frames.specs.Step as Frames
-use Rattle.frames.specs.Step.{stilled_of}
-use Rattle.trunk.specs.Demand.{hurt_by}
 use Rattle.rebuild.specs.View.{view}
 use Rattle.rebuild.specs.declared.Slots.{Slots}
 use Rattle.reports.specs.Layout.{report_size}
 use Rattle.collector.specs.Acting.{Kept}
-use Rattle.collector.specs.Calls.{sound, said_so, written}
-use Rattle.collector.specs.Frame.{damage_octets}
+use Rattle.collector.specs.Answers.{Ate}
+use Rattle.collector.specs.Calls.{sound}
 use Rattle.collector.specs.Lent.{over}
+use Rattle.playback.specs.Answers.{Played, Went}
 use Rattle.playback.specs.Layout.{record_size, record_octets}
 use Rattle.playback.specs.Calls.{more, Course, course, course_of, Comes, Plays, Ready}
-use Rattle.playback.specs.declared.Played.{Played}
-use Rattle.playback.specs.declared.orders.Record.{Record}
-use Rattle.playback.specs.declared.orders.Record.TheVariants.{Octet, Silence, Forget, Bad}
-use Rattle.playback.specs.declared.lent.Went.{Went}
-use Rattle.playback.specs.declared.lent.Lap.{Lap}
-use Rattle.playback.specs.declared.lent.Lull.{Lull}
+use Rattle.playback.specs.declared.orders.Order as Records
+use Rattle.playback.specs.declared.orders.Order.TheVariants.{Octet, Silence, Forget}
 
 -- ---- a record's order, as the code has it
-abbrev pub record_by : Option Order → Record
-record_by none = Bad
-record_by (some (trunk (octet x))) = Octet x
-record_by (some (trunk silence)) = Silence
-record_by (some (forget i)) = Forget i
+abbrev pub order_by : Option Order → Result Records.Order Refusal
+order_by none = Err BadRecord
+order_by (some (trunk (octet x))) = Ok (Octet x)
+order_by (some (trunk silence)) = Ok Silence
+order_by (some (forget i)) = Ok (Forget i)
 
 -- an octet's record stands in front
 pub record OctetFirst (o : List ℕ) : Type 0 where
@@ -74,31 +71,23 @@ pub record LendsOctet (l : Link) (t : Slots) (store report area o : List ℕ) : 
   pub lends : Lends l t store report area
   pub first : OctetFirst o
 
--- ---- a silence, in a state that 59 passes
-abbrev pub hushed : Link → Option (List ℕ)
-hushed l = hurt_by damage_octets (stilled_of l).outcome
-
-pub record Hushes (l : Link) (report : List ℕ) (r : Lull) (report' : List ℕ) : Type 0 where
-  pub reported : r.reported ≡ said_so (hushed l)
-  pub link : r.link ≡ (stilled_of l).link
-  pub report_after : report' ≡ written (hushed l) report
-
--- ---- one turn: it ends the replay, or the course goes on behind what it ate, from what it left
-abbrev pub turn_over : Edition → Lap → List ℕ → Played
-turn_over e r s = record { refused = r.number; eaten = r.eaten; reported = r.reported; state = over e r.link r.slots s }
+-- ---- one turn: a bad record or a report ends the replay, or the course goes on behind what it ate, from what it left
+abbrev pub turn_over : Edition → Ate → List ℕ → Played
+turn_over e r s = record { refused = r.refused; eaten = r.eaten; reported = r.reported; state = over e r.link r.slots s }
 
 abbrev pub more_of : ℕ → Course → Course
 more_of n w = course w.number (more n w.left)
 
-pub record GoesOn (e : Edition) (w : Course) (report o : List ℕ) (r : Lap) (store' report' area' : List ℕ) : Type 0 where
+pub record GoesOn (e : Edition) (w : Course) (report o : List ℕ) (r : Ate) (store' report' area' : List ℕ) : Type 0 where
   pub some : 0 < r.eaten
   pub ready : Ready (Frames.over r.link store') (view r.slots) area'
   pub quiet : report' ≡ report
   pub rest : w ≡ more_of r.eaten (course_of e (Frames.over r.link store') (view r.slots) area' (drop (record_size * r.eaten) o))
 
-pub record Turned (e : Edition) (l : Link) (t : Slots) (store report area o : List ℕ) (r : Lap) (store' report' area' : List ℕ) : Type 0 where
-  pub ends : r.ends ≡ true → Comes e (course_of e (Frames.over l store) (view t) area o) report (turn_over e r store') report' area'
-  pub goes : r.ends ≡ false → GoesOn e (course_of e (Frames.over l store) (view t) area o) report o r store' report' area'
+pub record Turned (e : Edition) (l : Link) (t : Slots) (store report area o : List ℕ) (r : Ate) (store' report' area' : List ℕ) : Type 0 where
+  pub bad : 0 < r.refused → Comes e (course_of e (Frames.over l store) (view t) area o) report (turn_over e r store') report' area'
+  pub ends : r.reported ≡ true → Comes e (course_of e (Frames.over l store) (view t) area o) report (turn_over e r store') report' area'
+  pub goes : r.refused ≡ 0 → r.reported ≡ false → GoesOn e (course_of e (Frames.over l store) (view t) area o) report o r store' report' area'
   pub within : record_size * r.eaten ≤ length o
   pub stored : length store' ≡ length store
   pub sized : length area' ≡ length area

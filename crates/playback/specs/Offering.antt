@@ -7,10 +7,10 @@ use Rattle.reports.specs.Layout.{report_size}
 use Rattle.collector.specs.Calls.{slots_of}
 use Rattle.collector.specs.Offering.{End, told, WithArea, calls}
 use Rattle.collector.specs.declared.Collector.{Collector}
+use Rattle.playback.specs.Answers.{Played}
 use Rattle.playback.specs.Layout.{record_octets}
 use Rattle.playback.specs.Valid.{Behind}
 use Rattle.playback.specs.Calls.{Plays}
-use Rattle.playback.specs.declared.Played.{Played}
 
 -- one call, lent a report area of 16 octets and the records of this part of the run, also of none; behind them nothing, a bad record and anything, or odd octets
 pub record Replaying (s : WithArea) (lent : Run) (eaten : ℕ) (said : Option (List ℕ)) (t : WithArea) : Type 0 where

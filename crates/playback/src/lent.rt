@@ -1,21 +1,24 @@
 // The same call over a lent frame store: link and slots go in and come back, the store stays where it is, the edition with whoever lends it.
-ghost use Rattle.std.specs.Prelude.{◌≡◌, true, length, ◌≤◌};
-ghost use Rattle.octets.specs.Choice.{pick};
-ghost use Rattle.reports.specs.Layout.{report_size};
-ghost use Rattle.playback.specs.Lent.{Replays, stayed, Judges, Lends, LendsWhole, LendsRecord, LendsOctet, Runs, Turned, Hushes};
+// Stays: (d) link, slots, store, report and area are parameters of their own, as the collector's calls have them (collector/src/lent.rt): a struct of the five would be put together and taken apart at each of those.
+ghost use Rattle.std.specs.Prelude.{◌≡◌, length, ◌≤◌};
+ghost use Rattle.octets.specs.Refusal.{number_of, fault_of};
+ghost use Rattle.collector.specs.Answers.{ate_of};
+ghost use Rattle.playback.specs.Answers.{went_of};
+ghost use Rattle.playback.specs.Lent.{Replays, stayed, Judges, LendsWhole, LendsRecord, LendsOctet, Runs, Turned};
 
-use crate::orders;
-use crate::orders::Record;
+use crate::orders::Order;
+use crate::{SIZE, orders};
 use apdu::Edition;
-use collector::frame;
-use frames::{Link, Outcome, Phase};
+use collector::lent;
+use collector::lent::Ate;
+use frames::{Link, Phase};
+use octets::Refusal;
 use rebuild::Slots;
-use reports::Report;
 
-// The answer: 60, 59, 68, 67 or 0; the records eaten; whether a report was written; whether the slots may have moved.
+// The answer: 60, 59, 68 or 67, or none; the records eaten; whether a report was written; whether the slots may have moved.
 #[derive(Clone, Copy)]
 pub struct Went {
-    pub refused: u8,
+    pub answer: Result<(), Refusal>,
     pub eaten: usize,
     pub reported: bool,
     pub moved: bool,
@@ -23,52 +26,25 @@ pub struct Went {
     pub slots: Slots,
 }
 
-// What one turn eats and leaves: whether the replay ends with it, and with which number.
-#[derive(Clone, Copy)]
-struct Lap {
-    ends: bool,
-    number: u8,
-    eaten: usize,
-    reported: bool,
-    moved: bool,
-    link: Link,
-    slots: Slots,
-}
-
-// A silence: whether it wrote a report, and the link behind it.
-#[derive(Clone, Copy)]
-struct Lull {
-    reported: bool,
-    link: Link,
-}
-
-// 60, 59 or 0, judged before any record, and by no turn again.
-fn judge(link: Link, slots: Slots, report: usize, area: usize) -> u8
-    ensures { Judges link slots report area result }
+// 60 or 59, judged before any record, and by no turn again.
+fn judge(link: Link, slots: Slots, report: usize, area: usize) -> Result<(), Refusal>
+    ensures { Judges link slots report area (fault_of result) }
 {
-    if report != reports::SIZE {
-        return 60;
+    if report != reports::SIZE || area != 65536 {
+        return Err(Refusal::AreaSize);
     }
-    if area != 65536 {
-        return 60;
+    if !rebuild::sound(slots) || !link.sound() {
+        return Err(Refusal::UnfitState);
     }
-    let fair = rebuild::sound(slots);
-    if !fair {
-        return 59;
-    }
-    let left = link.sound();
-    if !left {
-        return 59;
-    }
-    0
+    Ok(())
 }
 
 // A refused call: nothing eaten, nothing changed.
-fn stay(link: Link, slots: Slots, number: u8) -> Went
-    ensures { result ≡ stayed number link slots }
+fn stay(link: Link, slots: Slots, n: Refusal) -> Went
+    ensures { went_of result ≡ stayed (number_of n) link slots }
 {
     Went {
-        refused: number,
+        answer: Err(n),
         eaten: 0,
         reported: false,
         moved: false,
@@ -77,53 +53,17 @@ fn stay(link: Link, slots: Slots, number: u8) -> Went
     }
 }
 
-// The line fell silent, in a state that 59 passes.
-fn hush(link: Link, report: &mut [u8]) -> Lull
-    requires { length report.old ≡ report_size }
-    ensures { Hushes link report.old result report.new }
-{
-    let f = link.silence();
-    let link = f.link;
-    let ended = f.outcome;
-    match ended {
-        Outcome::Damage(n) => {
-            reports::put(Report::damaged(n), report);
-            Lull {
-                reported: true,
-                link,
-            }
-        }
-        Outcome::Quiet => Lull {
-            reported: false,
-            link,
-        },
-        Outcome::Frame => Lull {
-            reported: false,
-            link,
-        },
-    }
-}
-
-// How many octets to feed together: about to the end of what is coming in, so that at most five are gathered behind a report. Any number to 64 is right; a small one has the link fed more often.
+// How many octets to feed together: about to the end of what is coming in, so that at most five are gathered behind a report. Any number from 1 to 64 is right; a small one has the link fed more often.
 fn span(link: Link) -> usize
-    ensures { result ≤ 64 }
+    ensures { (1 ≤ result) × (result ≤ 64) }
 {
-    let p = link.phase;
-    let h = link.head;
-    match p {
+    match link.phase {
         Phase::Hunting => 8,
         Phase::Preamble => 7,
         Phase::Header(_) => 6,
         Phase::Data(got) => {
-            let n = frames::length_of(h);
-            if got < n {
-                let left = n - got;
-                if left < 62 {
-                    return (left + 2) as usize;
-                }
-                return 64;
-            }
-            2
+            let left = frames::length_of(link.head).saturating_sub(got);
+            usize::from(left.min(62)) + 2
         }
     }
 }
@@ -137,68 +77,16 @@ fn eat(
     rest: &[u8],
     report: &mut [u8],
     area: &mut [u8],
-) -> Lap
+) -> Result<Ate, Refusal>
     requires { LendsOctet link slots store.old report.old area.old rest.now }
-    ensures { Turned edition link slots store.old report.old area.old rest.now result store.new report.new area.new }
+    ensures { Turned edition link slots store.old report.old area.old rest.now (ate_of link slots result) store.new report.new area.new }
 {
-    let mut piece: [u8; 64] = [0; 64];
+    let mut piece = [0; 64];
     let n = orders::gather(rest, span(link), &mut piece);
-    let f = link.feed(&piece[..n], store);
-    let eaten = f.eaten;
-    let link = f.link;
-    let ended = f.outcome;
-    match ended {
-        Outcome::Quiet => Lap {
-            ends: false,
-            number: 0,
-            eaten,
-            reported: false,
-            moved: false,
-            link,
-            slots,
-        },
-        Outcome::Damage(d) => {
-            frame::put_damage(report, d);
-            Lap {
-                ends: true,
-                number: 0,
-                eaten,
-                reported: true,
-                moved: false,
-                link,
-                slots,
-            }
-        }
-        Outcome::Frame => {
-            let head = link.head;
-            let n = frames::length_of(head) as usize;
-            if frame::carries(head) {
-                let slots = frame::act(edition, head, &store[..n], slots, report, area);
-                return Lap {
-                    ends: true,
-                    number: 0,
-                    eaten,
-                    reported: true,
-                    moved: true,
-                    link,
-                    slots,
-                };
-            }
-            frame::put_other(head, &store[..n], report);
-            Lap {
-                ends: true,
-                number: 0,
-                eaten,
-                reported: true,
-                moved: false,
-                link,
-                slots,
-            }
-        }
-    }
+    lent::eat(edition, link, slots, store, &piece[..n], report, area)
 }
 
-// The next record, and the octet records that follow one.
+// The next record, and the octet records that follow one; or 67. Link and slots are ones that 59 passes, so a silence is not refused.
 fn turn(
     edition: Edition,
     link: Link,
@@ -207,58 +95,30 @@ fn turn(
     rest: &[u8],
     report: &mut [u8],
     area: &mut [u8],
-) -> Lap
+) -> Result<Ate, Refusal>
     requires { LendsRecord link slots store.old report.old area.old rest.now }
-    ensures { Turned edition link slots store.old report.old area.old rest.now result store.new report.new area.new }
+    ensures { Turned edition link slots store.old report.old area.old rest.now (ate_of link slots result) store.new report.new area.new }
 {
-    match orders::record_of(rest[0], rest[1], rest[2], rest[3]) {
-        Record::Octet(_) => eat(edition, link, slots, store, rest, report, area),
-        Record::Silence => {
-            let f = hush(link, report);
-            let link = f.link;
-            Lap {
-                ends: f.reported,
-                number: 0,
+    match orders::order_of(rest[0], rest[1], rest[2], rest[3])? {
+        Order::Octet(_) => eat(edition, link, slots, store, rest, report, area),
+        Order::Silence => {
+            let h = lent::hush(link, report)?;
+            Ok(Ate {
                 eaten: 1,
-                reported: f.reported,
+                reported: h.reported,
                 moved: false,
-                link,
+                link: h.link,
                 slots,
-            }
+            })
         }
-        Record::Forget(i) => {
-            let f = rebuild::forget(slots, i);
-            let slots = f.slots;
-            Lap {
-                ends: false,
-                number: 0,
-                eaten: 1,
-                reported: false,
-                moved: true,
-                link,
-                slots,
-            }
-        }
-        Record::Bad => Lap {
-            ends: true,
-            number: 67,
-            eaten: 0,
+        Order::Forget(i) => Ok(Ate {
+            eaten: 1,
             reported: false,
-            moved: false,
+            moved: true,
             link,
-            slots,
-        },
+            slots: rebuild::forget(slots, i).unwrap_or(slots),
+        }),
     }
-}
-
-// Whether the slots moved before or in this turn.
-fn either(before: bool, here: bool) -> bool
-    ensures { result ≡ pick before true here }
-{
-    if before {
-        return true;
-    }
-    here
 }
 
 // The records, turn by turn, in a state that 59 passes.
@@ -272,40 +132,42 @@ fn run(
     area: &mut [u8],
 ) -> Went
     requires { LendsWhole link slots store.old report.old area.old records.now }
-    ensures { Runs edition link slots store.old report.old area.old records.now result store.new report.new area.new }
+    ensures { Runs edition link slots store.old report.old area.old records.now (went_of result) store.new report.new area.new }
 {
-    let mut link = link;
-    let mut slots = slots;
-    let mut moved = false;
-    let mut eaten = 0;
-    let mut at = 0;
-    while at < records.len() {
-        let t = turn(edition, link, slots, store, &records[at..], report, area);
-        let n = t.eaten;
-        eaten += n;
-        at += 4 * n;
-        link = t.link;
-        slots = t.slots;
-        moved = either(moved, t.moved);
-        if t.ends {
-            return Went {
-                refused: t.number,
-                eaten,
-                reported: t.reported,
-                moved,
-                link,
-                slots,
-            };
-        }
-    }
-    Went {
-        refused: 0,
-        eaten,
+    let mut w = Went {
+        answer: Ok(()),
+        eaten: 0,
         reported: false,
-        moved,
+        moved: false,
         link,
         slots,
+    };
+    // Stays: (d) each turn goes on by as many records as it ate.
+    while SIZE * w.eaten < records.len() {
+        let rest = &records[SIZE * w.eaten..];
+        match turn(edition, w.link, w.slots, store, rest, report, area) {
+            Ok(t) => {
+                w = Went {
+                    eaten: w.eaten + t.eaten,
+                    reported: t.reported,
+                    moved: w.moved | t.moved,
+                    link: t.link,
+                    slots: t.slots,
+                    ..w
+                };
+                if w.reported {
+                    return w;
+                }
+            }
+            Err(n) => {
+                return Went {
+                    answer: Err(n),
+                    ..w
+                };
+            }
+        }
     }
+    w
 }
 
 // Eats records through the first that causes a report, else up to a bad one, else all.
@@ -319,14 +181,13 @@ pub fn replay(
     area: &mut [u8],
 ) -> Went
     requires { length store.old ≡ 501 }
-    ensures { Replays edition link slots store.old report.old area.old records.now result store.new report.new area.new }
+    ensures { Replays edition link slots store.old report.old area.old records.now (went_of result) store.new report.new area.new }
 {
-    let barred = judge(link, slots, report.len(), area.len());
-    if barred != 0 {
-        return stay(link, slots, barred);
+    if let Err(n) = judge(link, slots, report.len(), area.len()) {
+        return stay(link, slots, n);
     }
-    if records.len() % 4 != 0 {
-        return stay(link, slots, 68);
+    if records.len() % SIZE != 0 {
+        return stay(link, slots, Refusal::OddRecords);
     }
     run(edition, link, slots, store, records, report, area)
 }

@@ -1,66 +1,46 @@
 // One record's order, and the octet records in front of others.
 ghost use Rattle.std.specs.Prelude.{◌≡◌, length, ◌≤◌};
 ghost use Rattle.playback.specs.Reading.{order_of};
-ghost use Rattle.playback.specs.Lent.{record_by, OctetFirst, Gathered};
+ghost use Rattle.playback.specs.Lent.{order_by, OctetFirst, Gathered};
+
+use crate::SIZE;
+use octets::Refusal;
 
 // What a record is.
 #[derive(Clone, Copy)]
-pub enum Record {
+pub enum Order {
     Octet(u8),
     Silence,
     Forget(u8),
-    Bad,
 }
 
-// From its four octets.
-pub fn record_of(kind: u8, value: u8, third: u8, fourth: u8) -> Record
-    ensures { result ≡ record_by (order_of kind value third fourth) }
+// From its four octets, or 67.
+#[tactic(auto, using(octets::specs::Rules::tests), unfolding(crate::specs::Reading::order_of))]
+pub fn order_of(kind: u8, value: u8, third: u8, fourth: u8) -> Result<Order, Refusal>
+    ensures { result ≡ order_by (order_of kind value third fourth) }
 {
-    if 2 < kind {
-        return Record::Bad;
+    if third != 0 || fourth != 0 {
+        return Err(Refusal::BadRecord);
     }
-    if third != 0 {
-        return Record::Bad;
+    match kind {
+        0 => Ok(Order::Octet(value)),
+        1 if value == 0 => Ok(Order::Silence),
+        2 => Ok(Order::Forget(value)),
+        _ => Err(Refusal::BadRecord),
     }
-    if fourth != 0 {
-        return Record::Bad;
-    }
-    if kind == 0 {
-        return Record::Octet(value);
-    }
-    if kind == 2 {
-        return Record::Forget(value);
-    }
-    if value != 0 {
-        return Record::Bad;
-    }
-    Record::Silence
 }
 
 // The octet records in front, the first being one, at most so many: lays their values and answers how many.
 pub fn gather(records: &[u8], most: usize, out: &mut [u8]) -> usize
-    requires { OctetFirst records.now × ((length out.old ≡ 64) × (most ≤ 64)) }
+    requires { OctetFirst records.now × ((length out.old ≡ 64) × ((1 ≤ most) × (most ≤ 64))) }
     ensures { Gathered records.now out.new result }
 {
     out[0] = records[1];
-    let mut n = 1;
-    let mut at = 4;
-    while n < most {
-        if records.len() - at < 4 {
+    for n in 1..most {
+        let [0, value, 0, 0, ..] = &records[SIZE * n..] else {
             return n;
-        }
-        if records[at] != 0 {
-            return n;
-        }
-        if records[at + 2] != 0 {
-            return n;
-        }
-        if records[at + 3] != 0 {
-            return n;
-        }
-        out[n] = records[at + 1];
-        n += 1;
-        at += 4;
+        };
+        out[n] = *value;
     }
-    n
+    most
 }

@@ -14,7 +14,7 @@ use Rattle.tags.specs.Types.{longest}
 use Rattle.tags.specs.Reading.{head_at}
 use Rattle.tags.specs.Layout.{Thing, Good, encode, Valid, tag_of, tag_length}
 use Rattle.tags.specs.Layout.Thing.{application, boolean, context, opening, closing}
-use Rattle.tags.specs.declared.Tag.{Tag}
+use Rattle.tags.specs.Head.{Tag}
 use Rattle.tags.proofs.Refusals.{TagHas, refusals_have}
 use Rattle.tags.proofs.Exact.{encode_length, encode_some, head_complete, head_sound}
 use Rattle.items.specs.Records.{Rec, rec}
@@ -25,8 +25,8 @@ use Rattle.items.specs.OneItem.{Single, OneItem, StandsOne}
 use Rattle.items.specs.OneItem.OneItem.{single, group}
 use Rattle.items.proofs.Longest.{one_within}
 use Rattle.items.proofs.OneItem.{one_stands, stands_one}
-use Rattle.reader.specs.declared.Step.{Step}
-use Rattle.reader.specs.declared.Step.TheVariants.{Item, Group, End, Refused}
+use Rattle.reader.specs.Answers.{Step}
+use Rattle.reader.specs.Answers.Step.{Item, Group, End, Refused}
 use Rattle.reader.specs.Reading.{shown, judged, step_of}
 use Rattle.reader.specs.Stands.{ItemStands, group_of, GroupStands, ClosingStands}
 use Rattle.reader.proofs.Heads.{step_over, step_end, step_by, step_item, step_group, step_closing, step_refused}

@@ -6,11 +6,11 @@ use lib.ListN.{length}
 use borrow.Author.Tests.{lt-ltb, le-ltb, lt-leb, le-leb}
 use Rattle.tags.specs.Types.{longest}
 use Rattle.tags.specs.Reading.{head_at}
-use Rattle.tags.specs.declared.Tag.{Tag}
+use Rattle.tags.specs.Head.{Tag}
 use Rattle.items.specs.Reading.{item_at, step, closes, end_of}
-use Rattle.items.specs.declared.One.{One}
+use Rattle.items.specs.Answers.{One}
 use Rattle.items.proofs.Left.{one_item}
-use Rattle.reader.specs.declared.Step.TheVariants.{Item, Group, End, Refused}
+use Rattle.reader.specs.Answers.Step.{Item, Group, End, Refused}
 use Rattle.reader.specs.Reading.{shown, judged, step_of}
 
 module _ (s : List ℕ) (at : ℕ) where

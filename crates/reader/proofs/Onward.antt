@@ -9,7 +9,7 @@ use borrow.Author.Tests.{ltb-true, leb-true, leb-false}
 use Rattle.octets.specs.Choice.{pick_cases}
 use Rattle.tags.specs.Types.{longest}
 use Rattle.tags.specs.Reading.{head_at}
-use Rattle.tags.specs.declared.Tag.{Tag}
+use Rattle.tags.specs.Head.{Tag}
 use Rattle.items.specs.Records.{Rec}
 use Rattle.items.specs.Reading.{Out, item_at, end_of}
 use Rattle.items.specs.Reading.Out.{good, bad}

@@ -23,6 +23,9 @@ use denote.Triple.Spec.{triple_of}
 use denote.Triple.Clauses.{ensured, lasts}
 use Rattle.reader.specs.Reading.{step_of}
 use Rattle.reader.specs.declared.Reader.{Reader}
+use Rattle.std.specs.Prelude.{Result}
+use Rattle.octets.specs.declared.refusal.Refusal.{Refusal}
+use Rattle.reader.specs.Answers.{answer_of}
 use Rattle.reader.specs.declared.Step.{Step}
 use Rattle.reader.specs.contracts.Reader as T
 use Rattle.reader.specs.contracts.new as new
@@ -52,5 +55,5 @@ module _ {M : Type 1} {𝓤 : Ura M} (𝓛 : Logic 𝓤) (mem : Memory → SProp
   pub goes_next : (κ : Lft) (q : Share) (d : Reader) (u : Val) → ent 𝓤 (⋆ 𝓛 (‵ ((B (κ, tt)).own_val d (u ∷ [])) ∷ (‵ (flft κ q) ⊛ ‵ ftrue) ∷ [])) (Next.pre (to_next κ q d u))
   goes_next κ q d u = qed 𝓛 (‵ ((B (κ, tt)).own_val d (u ∷ [])) ∷ (‵ (flft κ q) ⊛ ‵ ftrue) ∷ []) ∵ nothing ! $ move ! (1 ∷ 0 ∷ []) $ fjoin ! $ move ! (1 ∷ 0 ∷ []) $ join ! $ frame ! $ done !
 
-  pub next_said : (κ : Lft) (d : Reader) (t : Step) → ent 𝓤 (ensured 𝓛 next.ended (next.clauses 𝓛 mem run) (κ, tt) (d, tt) tt t) (fact 𝓤 (t ≡ step_of d.params.now d.at))
-  next_said κ d t = ex_e 𝓤 _ (λ ws. snd∗ 𝓤 (sem 𝓛 (lasts next.ended (κ, tt) (d, tt) ws)) (fact 𝓤 (t ≡ step_of d.params.now d.at)))
+  pub next_said : (κ : Lft) (d : Reader) (t : Result Step Refusal) → ent 𝓤 (ensured 𝓛 next.ended (next.clauses 𝓛 mem run) (κ, tt) (d, tt) tt t) (fact 𝓤 (answer_of t ≡ step_of d.params.now d.at))
+  next_said κ d t = ex_e 𝓤 _ (λ ws. snd∗ 𝓤 (sem 𝓛 (lasts next.ended (κ, tt) (d, tt) ws)) (fact 𝓤 (answer_of t ≡ step_of d.params.now d.at)))

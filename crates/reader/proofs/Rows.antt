@@ -15,7 +15,7 @@ use Rattle.tags.specs.Reading.{head_at}
 use Rattle.tags.specs.Layout.{Thing, Good, Stands, encode, Valid, tag_of}
 use Rattle.tags.specs.Layout.Thing.{application, boolean, context, opening, closing}
 use Rattle.tags.specs.Rows.{Given}
-use Rattle.tags.specs.declared.Tag.{Tag}
+use Rattle.tags.specs.Head.{Tag}
 use Rattle.tags.proofs.Exact.{encode_some, head_complete, head_sound}
 use Rattle.tags.proofs.Rows.{rows_exact}
 use Rattle.items.specs.Records.{Rec}
@@ -26,7 +26,7 @@ use Rattle.items.specs.OneItem.{Single}
 use Rattle.items.proofs.Machine.{more_bad, within_done}
 use Rattle.items.proofs.Longest.{one_over, one_within}
 use Rattle.items.proofs.Exact.{simple_step, open_step, close_step}
-use Rattle.reader.specs.declared.Step.TheVariants.{Refused}
+use Rattle.reader.specs.Answers.Step.{Refused}
 use Rattle.reader.specs.Reading.{shown, judged, step_of}
 use Rattle.reader.specs.Rows.{Leads, Front, Offence, Row}
 use Rattle.reader.specs.Rows.Front.{nothing, opened}

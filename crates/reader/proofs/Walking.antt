@@ -9,18 +9,18 @@ use borrow.Author.Tests.{leb-true, leb-false, ne_eqb}
 use Rattle.octets.specs.Choice.{by_test}
 use Rattle.tags.specs.Types.{longest}
 use Rattle.tags.specs.Reading.{head_at}
-use Rattle.tags.specs.declared.Tag.{Tag}
+use Rattle.tags.specs.Head.{Tag}
 use Rattle.tags.proofs.Bounds.{TagIn}
 use Rattle.items.specs.Records.{Rec, rec}
 use Rattle.items.specs.Reading.{items_of, item_at, end_of}
 use Rattle.items.specs.Reading.Out.{good}
-use Rattle.items.specs.declared.One.{One}
+use Rattle.items.specs.Answers.{One}
 use Rattle.items.specs.Left.{Left, AllDeep}
 use Rattle.items.proofs.Steps.{tag_in}
 use Rattle.items.proofs.Longest.{items_within}
 use Rattle.items.proofs.Left.{left_all, left_end, left_item, left_group, left_closing, left_refused}
-use Rattle.reader.specs.declared.Step.{Step}
-use Rattle.reader.specs.declared.Step.TheVariants.{Item, Group, End, Refused}
+use Rattle.reader.specs.Answers.{Step}
+use Rattle.reader.specs.Answers.Step.{Item, Group, End, Refused}
 use Rattle.reader.specs.Reading.{step_of}
 use Rattle.reader.specs.Walking.{Meets, Walk, outermost}
 use Rattle.reader.proofs.Heads.{step_end, step_item, step_group}

@@ -3,11 +3,11 @@ use Rattle.std.specs.Prelude.{ℕ, List, ltb, length}
 use Rattle.octets.specs.Reading.{reach, refuse}
 use Rattle.tags.specs.Types.{longest}
 use Rattle.tags.specs.Reading.{head_at}
-use Rattle.tags.specs.declared.Tag.{Tag}
+use Rattle.tags.specs.Head.{Tag}
 use Rattle.items.specs.Reading.{item_at, end_of}
-use Rattle.items.specs.declared.One.{One}
-use Rattle.reader.specs.declared.Step.{Step}
-use Rattle.reader.specs.declared.Step.TheVariants.{Item, Group, End, Refused}
+use Rattle.items.specs.Answers.{One}
+use Rattle.reader.specs.Answers.{Step}
+use Rattle.reader.specs.Answers.Step.{Item, Group, End, Refused}
 
 -- the tag that stands there, and the place after it with its whole group. 35: "closing tag without the same number innermost", for no group is open
 unfoldable pub shown : Tag → ℕ → Step

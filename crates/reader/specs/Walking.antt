@@ -3,8 +3,8 @@ use Rattle.std.specs.Prelude.{ℕ, ◌≤◌, ◌<◌, ◌≡◌, ◌⊎◌, Lis
 use Rattle.octets.specs.Choice.{pick, both, non}
 use Rattle.tags.specs.Types.{longest}
 use Rattle.items.specs.Records.{Rec, rec}
-use Rattle.reader.specs.declared.Step.{Step}
-use Rattle.reader.specs.declared.Step.TheVariants.{Item, Group, End, Refused}
+use Rattle.reader.specs.Answers.{Step}
+use Rattle.reader.specs.Answers.Step.{Item, Group, End, Refused}
 use Rattle.reader.specs.Reading.{step_of}
 
 -- a step answers an item or a group, here by its record, and where the next step is taken

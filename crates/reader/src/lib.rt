@@ -2,9 +2,10 @@
 #![tactic(auto)]
 
 ghost use Rattle.std.specs.Prelude.{◌≡◌};
+ghost use Rattle.reader.specs.Answers.{answer_of};
 ghost use Rattle.reader.specs.Reading.{step_of};
 
-use items::One;
+use octets::Refusal;
 use tags::Tag;
 
 // "carries the parameter octets and its own place". The functions over it are few and thin: `step_at` does their work on plain
@@ -15,8 +16,9 @@ pub struct Reader<'a> {
     pub at: usize,
 }
 
-// What stands at the reader's place: an item (kind 0 application, 1 context), a whole group, the end, or the number of the
-// refusal. `place` is the octet after the tag, `next` the place after the item or after the group's closing.
+// What stands at the reader's place: an item, a whole group, or the end. `place` is the octet after the tag, `next` the place after the
+// item or after the group's closing.
+// Stays: (d) a kind is the record's number (0 application, 1 context; a group's is 2): by `Class` its one caller, hb_item_step, turns it into that number again.
 #[derive(Clone, Copy)]
 pub enum Step {
     Item {
@@ -33,54 +35,46 @@ pub enum Step {
         next: usize,
     },
     End,
-    Refused(u8),
 }
 
 // One item with its whole group, by the item reader. 39: judged first.
-pub fn step_at(params: &[u8], at: usize) -> Step
-    ensures { result ≡ step_of params.now at }
+pub fn step_at(params: &[u8], at: usize) -> Result<Step, Refusal>
+    ensures { answer_of result ≡ step_of params.now at }
 {
     if 16384 < params.len() {
-        return Step::Refused(39);
+        return Err(Refusal::TooManyOctets);
     }
     if params.len() <= at {
-        return Step::End;
+        return Ok(Step::End);
     }
-    let t = tags::head(params, at);
-    match t {
+    match tags::head(params, at)? {
         Tag::Item {
-            kind,
+            class,
             number,
             value,
             place,
             len,
-        } => Step::Item {
-            kind,
+        } => Ok(Step::Item {
+            kind: class.kind(),
             number,
             value,
             place,
             len,
             next: place + len,
-        },
+        }),
         Tag::Opening { number, place } => {
-            let o = items::whole_at(params, at);
-            match o {
-                One::Next(next) => Step::Group {
-                    number,
-                    place,
-                    next,
-                },
-                One::Refused(x) => Step::Refused(x),
-            }
+            let next = items::whole_at(params, at)?;
+            Ok(Step::Group {
+                number,
+                place,
+                next,
+            })
         }
-        Tag::Closing {
-            number: _,
-            place: _,
-        } => Step::Refused(35),
-        Tag::Refused(x) => Step::Refused(x),
+        Tag::Closing { .. } => Err(Refusal::StrayClosing),
     }
 }
 
+// Stays: (a) functions and no methods, by the names that docs/CALLS.md has.
 // A reader at the first octet.
 pub fn new<'a>(params: &'a [u8]) -> Reader<'a>
     ensures { (result.params ≡ params.entry) × (result.at ≡ 0) }
@@ -89,8 +83,8 @@ pub fn new<'a>(params: &'a [u8]) -> Reader<'a>
 }
 
 // The step at the reader's place.
-pub fn next<'a>(r: Reader<'a>) -> Step
-    ensures { result ≡ step_of r.entry.params.now r.entry.at }
+pub fn next<'a>(r: Reader<'a>) -> Result<Step, Refusal>
+    ensures { answer_of result ≡ step_of r.entry.params.now r.entry.at }
 {
     step_at(r.params, r.at)
 }
@@ -107,15 +101,15 @@ pub fn moved<'a>(r: Reader<'a>, at: usize) -> Reader<'a>
 
 // The step of a reader that was moved to a place: over plain parameters, so that its contract, and with it those of `new`, `moved` and
 // `next`, can be cited.
-pub fn step_from(params: &[u8], at: usize) -> Step
-    ensures { result ≡ step_of params.now at }
+pub fn step_from(params: &[u8], at: usize) -> Result<Step, Refusal>
+    ensures { answer_of result ≡ step_of params.now at }
 {
     next(moved(new(params), at))
 }
 
 // The first step of a new reader: so that the place where `new` begins is used too.
-pub fn first(params: &[u8]) -> Step
-    ensures { result ≡ step_of params.now 0 }
+pub fn first(params: &[u8]) -> Result<Step, Refusal>
+    ensures { answer_of result ≡ step_of params.now 0 }
 {
     next(new(params))
 }

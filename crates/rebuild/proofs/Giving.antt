@@ -8,14 +8,12 @@ use Rattle.messages.specs.Rows as Rules
 use Rattle.messages.specs.Rows.Answer.{refused, taken, completed}
 use Rattle.messages.proofs.Rows.{settle_more, settle_last}
 use Rattle.rebuild.specs.View.{keys, free_slot, seen, view, segment_of}
-use Rattle.rebuild.specs.Calls.{step_of, Gives, taking, Forgets}
+use Rattle.rebuild.specs.Calls.{Taken, Forgot, step_of, Gives, taking, Forgets}
 use Rattle.rebuild.specs.declared.Key.{Key}
 use Rattle.rebuild.specs.declared.Slot.{Slot}
 use Rattle.rebuild.specs.declared.Slots.{Slots}
 use Rattle.rebuild.specs.declared.Segment.{Segment}
-use Rattle.rebuild.specs.declared.Step.TheVariants.{Refused, Held, Complete}
-use Rattle.rebuild.specs.declared.Taken.{Taken}
-use Rattle.rebuild.specs.declared.Forgot.{Forgot}
+use Rattle.rebuild.specs.Calls.Step.{Refused, Held, Complete}
 use Rattle.rebuild.proofs.Seen.{set_view, view_one}
 
 pub gives_by : {d e : Rules.Done Key} {r : Taken} {later : List ℕ} → d ≡ e → Gives e r later → Gives d r later

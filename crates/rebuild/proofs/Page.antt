@@ -18,13 +18,11 @@ use Rattle.messages.proofs.History.{completes}
 use Rattle.messages.proofs.Laws.{others, within_taken, within_completed}
 use Rattle.messages.proofs.Alone.{undisturbed}
 use Rattle.rebuild.specs.View.{keys, same_key, given_key, nowhere, zero_key, fresh, view, segment_of}
-use Rattle.rebuild.specs.Calls.{Gives, taking, Forgets}
+use Rattle.rebuild.specs.Calls.{Taken, Forgot, Gives, taking, Forgets}
 use Rattle.rebuild.specs.declared.Key.{Key}
 use Rattle.rebuild.specs.declared.Slots.{Slots}
 use Rattle.rebuild.specs.declared.Segment.{Segment as Asked}
-use Rattle.rebuild.specs.declared.Step.TheVariants.{Held, Complete}
-use Rattle.rebuild.specs.declared.Taken.{Taken}
-use Rattle.rebuild.specs.declared.Forgot.{Forgot}
+use Rattle.rebuild.specs.Calls.Step.{Held, Complete}
 use Rattle.rebuild.proofs.Giving.{gives_by, taking_on, step_one}
 
 pub key_laws : KeyLaws keys

@@ -2,17 +2,15 @@
 use Rattle.std.proofs.Common.{◌≡◌, ℕ, zero, suc, ◌<◌, ◌≤◌, Bool, true, false, List, [], ◌∷◌, map, length, get_or, set, sym, refl, ap, ◌∙◌, arith}
 use mathlib.Core.Option.{Option, some}
 use lib.ListN.{length-map, get_or-eq_default, get_or-map}
-use Rattle.octets.specs.Choice.{both, non}
+use Rattle.octets.specs.Choice.{both}
 use Rattle.npdu.specs.declared.Address.{Address}
 use Rattle.messages.specs.Slots as Messages
 use Rattle.messages.specs.Sound.{twice}
 use Rattle.messages.proofs.Lowest.{lowest_some}
-use Rattle.rebuild.specs.View.{keys, free_slot, seen, back, view, unview, found}
+use Rattle.rebuild.specs.View.{keys, free_slot, seen, back, view, unview}
 use Rattle.rebuild.specs.declared.Key.{Key}
 use Rattle.rebuild.specs.declared.Slot.{Slot}
 use Rattle.rebuild.specs.declared.Slots.{Slots}
-use Rattle.rebuild.specs.declared.search.Found.TheVariants.{At, Nothing}
-use Rattle.rebuild.proofs.Lookup.{found_some, found_none}
 
 -- what a read past the last slot would be, which there is none of: in it an array is the empty list
 abbrev nobody : Address
@@ -33,9 +31,6 @@ seen_at t i h = get_or-map seen t.slots i free_slot ∙ ap seen (there t.slots i
 -- what is asked of a slot
 pub at_view : {A : Type 0} (f : Messages.Slot Key → A) (t : Slots) (i : ℕ) → i < length t.slots → f (Messages.slot_at keys (view t) i) ≡ f (seen (get_or t.slots i blank))
 at_view f t i h = ap f (seen_at t i h)
-
-pub free_at_lem : (t : Slots) (i : ℕ) → i < length t.slots → (u : Bool) → (get_or t.slots i blank).used ≡ u → Messages.is_free keys (Messages.slot_at keys (view t) i) ≡ non u
-free_at_lem t i h u e = at_view (Messages.is_free keys) t i h ∙ ap non e
 
 pub set_view : (l : List Slot) (i : ℕ) (x : Slot) → map seen (set l i x) ≡ set (map seen l) i (seen x)
 set_view [] i x = refl
@@ -62,18 +57,12 @@ pub twice_free : (t : Slots) (i : ℕ) (rest : List (Messages.Slot Key)) → i <
 twice_free t i rest h e =
     at_view (λ (x : Messages.Slot Key). twice keys x rest) t i h ∙ ap (λ (u : Bool). both u (Messages.is_some (Messages.lowest (Messages.open_to keys (get_or t.slots i blank).key) rest))) e
 
-module _ (t : Slots) (i start : ℕ) (rest : List (Messages.Slot Key)) (h : i < length t.slots) (used : (get_or t.slots i blank).used ≡ true) where
+module _ (t : Slots) (i : ℕ) (rest : List (Messages.Slot Key)) (h : i < length t.slots) (used : (get_or t.slots i blank).used ≡ true) where
   abbrev later : Option ℕ
   later = Messages.lowest (Messages.open_to keys (get_or t.slots i blank).key) rest
 
-  twice_used : twice keys (Messages.slot_at keys (view t) i) rest ≡ Messages.is_some later
+  pub twice_used : twice keys (Messages.slot_at keys (view t) i) rest ≡ Messages.is_some later
   twice_used = at_view (λ (x : Messages.Slot Key). twice keys x rest) t i h ∙ ap (λ (u : Bool). both u (Messages.is_some later)) used
-
-  pub twice_found : (j : ℕ) → found start later ≡ At j → twice keys (Messages.slot_at keys (view t) i) rest ≡ true
-  twice_found j e = twice_used ∙ found_some start j later e
-
-  pub twice_alone : found start later ≡ Nothing → twice keys (Messages.slot_at keys (view t) i) rest ≡ false
-  twice_alone e = twice_used ∙ ap Messages.is_some (found_none start later e)
 
 -- the slots are known by how they are seen
 back_seen : (l : List Slot) → map back (map seen l) ≡ l

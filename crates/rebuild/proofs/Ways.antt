@@ -1,8 +1,18 @@
 -- The ways through the functions of rebuilding: what each promises, from what the calls in it promise and the tests that it took.
-use Rattle.std.proofs.Common.{◌≡◌, ℕ, ◌+◌, ◌*◌, ◌%◌, ◌^◌, ◌<◌, ◌≤◌, Bool, true, false, not, List, length, get_or, drop, set, sym, refl, ap, ◌∙◌, arith, le-ltb, lt-ltb, eq-eqb, ne_eqb}
+use Rattle.std.proofs.Common.{◌≡◌, ℕ, ◌+◌, ◌*◌, ◌%◌, ◌^◌, ◌<◌, ◌≤◌, Bool, true, false, not, List, length, get_or, take, drop, set, ◌-◌, ◌++◌, append-nil, length-drop, sym, refl, ap, ◌∙◌, arith, le-ltb, lt-ltb, eq-eqb, ne_eqb, eqb, nat_eq}
+use Rattle.std.specs.Prelude.{Option as Found, Some, None}
 use mathlib.Core.Option.{Option, none, some}
+use lib.ListN.{drop_of_length-le}
+use lib.Seq.{take-length}
+use Rattle.std.specs.Array.{IsFirstChunk}
+use mathlib.Core.Bool.{◌&&◌, beq}
 use borrow.Author.Tests.{not-true, not-false}
-use Rattle.octets.specs.Choice.{both, non, both_false}
+use Rattle.std.specs.Cmp.Lexicographic.{pointwise}
+use Rattle.std.specs.List.{position, list_any, drop-map}
+use Rattle.npdu.specs.declared.Address.{Address}
+use Rattle.npdu.proofs.AddressLaws.{same_address_is}
+use Rattle.rebuild.specs.declared.Slot.{Slot}
+use Rattle.octets.specs.Choice.{both, non, not_so, both_false}
 use Rattle.octets.specs.Splice.{splice}
 use Rattle.npdu.specs.Address.{same_address, gives_source, gives_destination}
 use Rattle.messages.specs.Slots as Messages
@@ -12,31 +22,35 @@ use Rattle.messages.proofs.Starts.{starts_other, starts_new, starts_open, starts
 use Rattle.messages.proofs.Rows.{rebuild_open, rebuild_new, new_51, new_start, open_restart, open_52, open_53, open_on, fitted_54, fitted_on}
 use Rattle.messages.proofs.Sound.{sound_over, sound_strange, sound_twice, sound_on, sound_end}
 use Rattle.rebuild.specs.View.{same_key, given_key, keys, free_slot, seen, view, segment_of, found}
-use Rattle.rebuild.specs.Calls.{Gives, taking, Forgets}
+use Rattle.rebuild.specs.Calls.{Taken, Kept, Lost, Gives, taking, Forgets}
 use Rattle.rebuild.specs.declared.Key.{Key}
 use Rattle.rebuild.specs.declared.Slots.{Slots}
 use Rattle.rebuild.specs.declared.Segment.{Segment}
-use Rattle.rebuild.specs.declared.Step.TheVariants.{Refused, Held, Complete}
-use Rattle.rebuild.specs.declared.Taken.{Taken}
-use Rattle.rebuild.specs.declared.search.Found.{Found}
-use Rattle.rebuild.specs.declared.search.Found.TheVariants.{At, Nothing}
-use Rattle.rebuild.proofs.Lookup.{turn, meets, ends, found_at, found_none}
-use Rattle.rebuild.proofs.Seen.{blank, seen_at, at_view, free_at_lem, length_view, past_last, found_below, twice_free, twice_found, twice_alone}
+use Rattle.rebuild.specs.Calls.Step.{Held, Complete}
+use Rattle.rebuild.proofs.Lookup.{turn, meets, ends, found_at, found_none, placed, some_place}
+use Rattle.rebuild.proofs.Seen.{blank, seen_at, at_view, length_view, found_below, twice_free, twice_used}
 use Rattle.rebuild.proofs.Giving.{gives_by, gives_kept, gives_lost, gives_more, gives_last, taking_60, taking_on, forgets, forgets_not}
 
--- ---- two keys whose numbers are the same, x whether their sources are: the same where both addresses are
-module _ (a b : Key) (i : a.invoke ≡ b.invoke) (s : a.source ≡ b.source) (d : a.destination ≡ b.destination) (k : a.kind ≡ b.kind)
-    {x : Bool} (e : x ≡ same_address a.from b.from) where
-  by_addresses : same_key a b ≡ both x (same_address a.to b.to)
-  unfolding same_key
-  by_addresses =
-      rw (eq-eqb a.invoke b.invoke i, eq-eqb a.source b.source s, eq-eqb a.destination b.destination d, eq-eqb a.kind b.kind k, e)
+-- ---- two keys are the same where the library finds them equal
+abbrev same : Address → Address → Bool
+same a b = beq a.present b.present && (eqb a.network b.network && (eqb a.length b.length && pointwise nat_eq a.octets b.octets))
 
-  pub same_ends : {y : Bool} → x ≡ true → y ≡ same_address a.to b.to → y ≡ same_key a b
-  same_ends q f = f ∙ sym (by_addresses ∙ ap (λ (z : Bool). both z (same_address a.to b.to)) q)
+-- the invoke IDs may be asked first
+invoke_first : (i s d k f t : Bool) → (s && (d && (k && (i && (f && t))))) ≡ both i (both s (both d (both k (both f t))))
+invoke_first true true true true true t = refl
+invoke_first true true true true false t = refl
+invoke_first true true true false f t = refl
+invoke_first true true false k f t = refl
+invoke_first true false d k f t = refl
+invoke_first false true true true f t = refl
+invoke_first false true true false f t = refl
+invoke_first false true false k f t = refl
+invoke_first false false d k f t = refl
 
-  pub other_ends : x ≡ false → false ≡ same_key a b
-  other_ends q = sym (by_addresses ∙ ap (λ (z : Bool). both z (same_address a.to b.to)) q)
+pub same_key_is : (a b : Key)
+    → (eqb a.source b.source && (eqb a.destination b.destination && (eqb a.kind b.kind && (eqb a.invoke b.invoke && (same a.from b.from && same a.to b.to))))) ≡ same_key a b
+unfolding same_key
+same_key_is a b = rw (same_address_is a.from b.from, same_address_is a.to b.to) (invoke_first (eqb a.invoke b.invoke) (eqb a.source b.source) (eqb a.destination b.destination) (eqb a.kind b.kind) (same_address a.from b.from) (same_address a.to b.to))
 
 -- ---- whether a key is given, x whether its source is
 module _ (k : Key) {x : Bool} (e : x ≡ gives_source k.from) where
@@ -49,21 +63,22 @@ module _ (k : Key) {x : Bool} (e : x ≡ gives_source k.from) where
   not_given q = ap (λ (z : Bool). both z (gives_destination k.to)) (sym q ∙ e)
 
 -- ---- whether a slot is open, u, with a key that is not given; b: whether it is given
-pub strange_free : (u v : Bool) → not u ≡ true → false ≡ both (non v) u
-strange_free u v n = sym (ap (both (non v)) (not-true u n) ∙ both_false (non v))
+pub strange_free : (u v : Bool) → u ≡ false → false ≡ both (non v) u
+strange_free u v n = sym (ap (both (non v)) n ∙ both_false (non v))
 
-pub strange_not : (u v b : Bool) → b ≡ v → b ≡ true → false ≡ both (non v) u
-strange_not u v b e q = ap (λ (x : Bool). both (non x) u) (sym q ∙ e)
-
-pub strange_here : (u v b : Bool) → not u ≡ false → b ≡ v → b ≡ false → true ≡ both (non v) u
-strange_here u v b n e q = sym (not-false u n) ∙ ap (λ (x : Bool). both (non x) u) (sym q ∙ e)
+pub strange_here : (u v b : Bool) → u ≡ true → b ≡ v → not b ≡ both (non v) u
+strange_here true true true n e = refl
+strange_here true false false n e = refl
+strange_here true true false n e = not_so e
+strange_here true false true n e = not_so (sym e)
+strange_here false v b n e = not_so n
 
 -- ---- a slot that is free is open to no key; one that is used, where the keys are the same
-pub closed_to : (u v : Bool) → not u ≡ true → false ≡ both u v
-closed_to u v n = sym (ap (λ (x : Bool). both x v) (not-true u n))
+pub closed_to : (u v : Bool) → u ≡ false → false ≡ both u v
+closed_to u v n = sym (ap (λ (x : Bool). both x v) n)
 
-pub opened_to : (u v b : Bool) → not u ≡ false → b ≡ v → b ≡ both u v
-opened_to u v b n e = e ∙ sym (ap (λ (x : Bool). both x v) (not-false u n))
+pub opened_to : (u v b : Bool) → u ≡ true → b ≡ v → b ≡ both u v
+opened_to u v b n e = e ∙ sym (ap (λ (x : Bool). both x v) n)
 
 -- ---- a search of the slots from start on, at slot s: what it finds from here on it finds
 pub record Looking (f : Messages.Slot Key → Bool) (t : Slots) (start s : ℕ) : Type 0 where
@@ -71,73 +86,58 @@ pub record Looking (f : Messages.Slot Key → Bool) (t : Slots) (start s : ℕ) 
   pub same : found start (Messages.lowest f (drop start (view t))) ≡ found s (Messages.lowest f (drop s (view t)))
 
 module _ (f : Messages.Slot Key → Bool) (t : Slots) (start : ℕ) where
-  pub looks_first : length t.slots ≡ 4 → Looking f t start start
-  looks_first k = record { four = k; same = refl }
-
   module _ (s : ℕ) (w : Looking f t start s) where
-    pub looks_past : 4 ≤ s → Nothing ≡ found start (Messages.lowest f (drop start (view t)))
+    pub looks_past : 4 ≤ s → None ≡ found start (Messages.lowest f (drop start (view t)))
     looks_past h = let k = length_view t 4 w.four in sym (w.same ∙ ends f (Messages.empty keys) (view t) s (omega arith))
 
     -- a test of the slot as the rules see it
-    finds : s < 4 → f (Messages.slot_at keys (view t) s) ≡ true → At s ≡ found start (Messages.lowest f (drop start (view t)))
+    finds : s < 4 → f (Messages.slot_at keys (view t) s) ≡ true → Some s ≡ found start (Messages.lowest f (drop start (view t)))
     finds h e = let k = length_view t 4 w.four in sym (w.same ∙ meets f (Messages.empty keys) (view t) s (omega arith) e)
 
     passes_by : s < 4 → f (Messages.slot_at keys (view t) s) ≡ false → Looking f t start (s + 1)
     passes_by h e = let k = length_view t 4 w.four in record { four = w.four; same = w.same ∙ turn f (Messages.empty keys) (view t) s (omega arith) e }
 
     module _ (h : s < 4) (b : Bool) (e : b ≡ f (seen (get_or t.slots s blank))) where
-      pub looks_here : b ≡ true → At s ≡ found start (Messages.lowest f (drop start (view t)))
+      pub looks_here : b ≡ true → Some s ≡ found start (Messages.lowest f (drop start (view t)))
       looks_here q = let k = w.four in finds h (at_view f t s (omega arith) ∙ sym e ∙ q)
 
       pub looks_on : b ≡ false → Looking f t start (s + 1)
       looks_on q = let k = w.four in passes_by h (at_view f t s (omega arith) ∙ sym e ∙ q)
 
 -- the lowest free slot
-module _ (t : Slots) (s : ℕ) (w : Looking (Messages.is_free keys) t 0 s) where
-  pub free_past : 4 ≤ s → Nothing ≡ found 0 (Messages.lowest (Messages.is_free keys) (view t))
-  free_past h = looks_past (Messages.is_free keys) t 0 s w h
+not_non : (b : Bool) → not b ≡ non b
+not_non true = refl
+not_non false = refl
 
-  module _ (h : s < 4) where
-    pub free_here : not (get_or t.slots s blank).used ≡ true → At s ≡ found 0 (Messages.lowest (Messages.is_free keys) (view t))
-    free_here n = let k = w.four in finds (Messages.is_free keys) t 0 s w h (free_at_lem t s (omega arith) false (not-true _ n))
-
-    pub free_on : not (get_or t.slots s blank).used ≡ false → Looking (Messages.is_free keys) t 0 (s + 1)
-    free_on n = let k = w.four in passes_by (Messages.is_free keys) t 0 s w h (free_at_lem t s (omega arith) true (not-false _ n))
-
--- a slot whose key has another invoke ID than k is not open to k
-module _ (k : Key) (t : Slots) (start s : ℕ) (w : Looking (Messages.open_to keys k) t start s) (h : s < 4) where
-  pub looks_other : ((get_or t.slots s blank).key.invoke ≡ k.invoke → ⊥) → Looking (Messages.open_to keys k) t start (s + 1)
-  unfolding same_key
-  looks_other n =
-      let x = get_or t.slots s blank in
-      let e : Messages.open_to keys k (seen x) ≡ false = rw (ne_eqb x.key.invoke k.invoke n) (both_false x.used) in
-      looks_on (Messages.open_to keys k) t start s w h false (sym e) refl
+pub first_free : (t : Slots) {f : Found ℕ} → f ≡ position (λ (x : Slot). not x.used) t.slots → f ≡ found 0 (Messages.lowest (Messages.is_free keys) (view t))
+first_free t e = e ∙ placed seen (λ (x : Slot). not x.used) (Messages.is_free keys) (λ x. not_non x.used) t.slots
 
 -- what a search of the four slots finds is one of them
-pub found_here : (p : Messages.Slot Key → Bool) (t : Slots) (f : Found) → f ≡ found 0 (Messages.lowest p (view t))
-    → (s : ℕ) → f ≡ At s → length t.slots ≡ 4 → s < 4
+pub found_here : (p : Messages.Slot Key → Bool) (t : Slots) (f : Found ℕ) → f ≡ found 0 (Messages.lowest p (view t))
+    → (s : ℕ) → f ≡ Some s → length t.slots ≡ 4 → s < 4
 found_here p t f e s q k = found_below p t s 4 k (found_at _ s (sym e ∙ q))
 
--- ---- whether slot s is open and a later open slot has its key, f being what the search from start on found
-module _ (t : Slots) (s : ℕ) (rest : List (Messages.Slot Key)) (k : length t.slots ≡ 4) (h : s < 4) where
-  pub once_free : not (get_or t.slots s blank).used ≡ true → false ≡ Sound.twice keys (Messages.slot_at keys (view t) s) rest
-  once_free n = sym (twice_free t s rest (omega arith) (not-true _ n))
+-- ---- whether slot s is open and a later open slot has its key
+module _ (t : Slots) (s : ℕ) (k : length t.slots ≡ 4) (h : s < 4) where
+  pub once_free : (get_or t.slots s blank).used ≡ false → (rest : List (Messages.Slot Key)) → false ≡ Sound.twice keys (Messages.slot_at keys (view t) s) rest
+  once_free u rest = sym (twice_free t s rest (omega arith) u)
 
-  module _ (start : ℕ) (n : not (get_or t.slots s blank).used ≡ false) (f : Found)
-      (e : f ≡ found start (Messages.lowest (Messages.open_to keys (get_or t.slots s blank).key) rest)) where
-    pub twice_there : (j : ℕ) → f ≡ At j → true ≡ Sound.twice keys (Messages.slot_at keys (view t) s) rest
-    twice_there j q = sym (twice_found t s start rest (omega arith) (not-false _ n) j (sym e ∙ q))
-
-    pub once_there : f ≡ Nothing → false ≡ Sound.twice keys (Messages.slot_at keys (view t) s) rest
-    once_there q = sym (twice_alone t s start rest (omega arith) (not-false _ n) (sym e ∙ q))
+  pub twice_later : (get_or t.slots s blank).used ≡ true
+      → {b : Bool} → b ≡ list_any (λ (y : Slot). Messages.open_to keys (get_or t.slots s blank).key (seen y)) (take (length t.slots - (s + 1)) (drop (s + 1) t.slots))
+      → b ≡ Sound.twice keys (Messages.slot_at keys (view t) s) (drop (s + 1) (view t))
+  twice_later u e =
+      let x = get_or t.slots s blank in
+      let l = drop (s + 1) t.slots in
+      let rest : take (length t.slots - (s + 1)) l ≡ l = ap (λ (n : ℕ). take n l) (sym (length-drop (s + 1) t.slots)) ∙ take-length l in
+      e ∙ ap (list_any (λ (y : Slot). Messages.open_to keys x.key (seen y))) rest
+      ∙ some_place seen (λ (y : Slot). Messages.open_to keys x.key (seen y)) (Messages.open_to keys x.key) (λ y. refl) l
+      ∙ ap (λ (r : List (Messages.Slot Key)). Messages.is_some (Messages.lowest (Messages.open_to keys x.key) r)) (sym (drop-map seen (s + 1) t.slots))
+      ∙ sym (twice_used t s (drop (s + 1) (view t)) (omega arith) u)
 
 -- ---- 59's test, at slot s: the slots below are sound
 pub record Passing (t : Slots) (s : ℕ) : Type 0 where
   pub four : length t.slots ≡ 4
   pub same : Sound.sound keys (view t) ≡ Sound.sound keys (drop s (view t))
-
-pub passing_first : (t : Slots) → length t.slots ≡ 4 → Passing t 0
-passing_first t k = record { four = k; same = refl }
 
 module _ (t : Slots) (s : ℕ) (w : Passing t s) where
   -- there are four, so the rest is the test
@@ -185,9 +185,6 @@ module _ (t : Slots) (s : ℕ) (w : Passing t s) where
         passing_on p = record { four = w.four; same = w.same ∙ sound_on keys (view t) s within (rw held_here o) (is_strange false q) (sym f ∙ p) }
 
 -- ---- forgetting slot s, which is read and set at its place
-pub forget_past : (t : Slots) (s : ℕ) → length t.slots ≡ 4 → 3 < s → Forgets t s (record { number = 56; slots = t })
-forget_past t s k h = forgets_not t s (past_last t s (omega arith))
-
 module _ (t : Slots) (s at : ℕ) (k : length t.slots ≡ 4) (h : s ≤ 3) (e : at ≡ s) where
   pub forget_free : (get_or t.slots at blank).used ≡ false → Forgets t s (record { number = 56; slots = t })
   forget_free q = forgets_not t s (at_view (λ (x : Messages.Slot Key). x.used) t s (omega arith) ∙ rw e at q)
@@ -195,13 +192,6 @@ module _ (t : Slots) (s at : ℕ) (k : length t.slots ≡ 4) (h : s ≤ 3) (e : 
   pub forget_open : (u : Slots) → (get_or t.slots at blank).used ≡ true → u.slots ≡ set t.slots at free_slot
       → Forgets t s (record { number = 0; slots = u })
   forget_open u q d = forgets t s u (at_view (λ (x : Messages.Slot Key). x.used) t s (omega arith) ∙ rw e at q) (rw e at d)
-
--- ---- the answers that refuse: every slot is kept, or slot s is freed
-abbrev Kept : ℕ → Slots → Taken → Type 0
-Kept m t r = (r.answer ≡ Refused m) × (r.slots ≡ t)
-
-abbrev Lost : ℕ → Slots → ℕ → Taken → Type 0
-Lost m t s r = (r.answer ≡ Refused m) × (r.slots.slots ≡ set t.slots s free_slot)
 
 -- ---- whether a number starts its key's message, u whether the key is open
 module _ (number : ℕ) (u : Bool) (next : ℕ) where
@@ -291,7 +281,7 @@ module _ (t : Slots) (g : Segment) (o area : List ℕ) where
           gives_by (new_start keys seg box (sym e ∙ not-false b n) ∙ fitted_54 keys seg box none 0 (lt-ltb 16384 (0 + length o) (omega arith)))
           (gives_kept t area 54 w)
 
-      module _ (h : length o ≤ 16384) (f : Found) (k : f ≡ found 0 (Messages.lowest (Messages.is_free keys) (view t))) where
+      module _ (h : length o ≤ 16384) (f : Found ℕ) (k : f ≡ found 0 (Messages.lowest (Messages.is_free keys) (view t))) where
         -- with octets that fit it goes to the lowest free slot
         to_free : {x : Option ℕ} → Messages.lowest (Messages.is_free keys) (view t) ≡ x
             → Rules.rows keys seg none (Messages.empty keys) box ≡ Rules.settled keys seg x 0 box
@@ -300,19 +290,25 @@ module _ (t : Slots) (g : Segment) (o area : List ℕ) where
             ∙ fitted_on keys seg box none 0 (le-ltb 16384 (0 + length o) (omega arith))
             ∙ ap (λ (x : Option ℕ). Rules.settled keys seg x 0 box) q
 
-        pub news_settles : {r : Taken} {later : List ℕ} (s : ℕ) → f ≡ At s → Settled s 0 r later → New r later
+        pub news_settles : {r : Taken} {later : List ℕ} (s : ℕ) → f ≡ Some s → Settled s 0 r later → New r later
         news_settles s q w = gives_by (to_free (found_at _ s (sym k ∙ q))) w
 
-        pub news_50 : {r : Taken} → f ≡ Nothing → Kept 50 t r → New r area
+        pub news_50 : {r : Taken} → f ≡ None → Kept 50 t r → New r area
         news_50 q w = gives_by (to_free (found_none 0 _ (sym k ∙ q))) (gives_kept t area 50 w)
 
-  -- the whole call; f: the slot of its key
+  -- the whole call; f: the slot of its key. The area is lent on as an array, x; what stands behind it is nothing
+  pub whole_left : length area ≡ 65536 → (later : List ℕ) → later ++ drop 65536 area ≡ later
+  whole_left h later = rw (drop_of_length-le area {i = 65536} (omega arith)) (append-nil later)
+
+  pub whole_lent : length area ≡ 65536 → {x : List ℕ} → IsFirstChunk area x 65536 → x ≡ area
+  whole_lent h c = c.same ∙ ap (λ (n : ℕ). take n area) (sym h) ∙ take-length area
+
   pub takes_60 : {r : Taken} → (length area ≡ 65536 → ⊥) → Kept 60 t r → Gives (taking t g o area) r area
   takes_60 h w = gives_by (taking_60 t g o area h) (gives_kept t area 60 w)
 
-  module _ (h : length area ≡ 65536) (f : Found) (k : f ≡ found 0 (Messages.slot_of keys g.key (view t))) where
-    pub takes_open : {r : Taken} {later : List ℕ} (s : ℕ) → f ≡ At s → Open s r later → Gives (taking t g o area) r later
+  module _ (h : length area ≡ 65536) (f : Found ℕ) (k : f ≡ found 0 (Messages.slot_of keys g.key (view t))) where
+    pub takes_open : {r : Taken} {later : List ℕ} (s : ℕ) → f ≡ Some s → Open s r later → Gives (taking t g o area) r later
     takes_open s q w = gives_by (taking_on t g o area h ∙ rebuild_open keys seg box s (found_at _ s (sym k ∙ q))) w
 
-    pub takes_new : {r : Taken} {later : List ℕ} → f ≡ Nothing → New r later → Gives (taking t g o area) r later
+    pub takes_new : {r : Taken} {later : List ℕ} → f ≡ None → New r later → Gives (taking t g o area) r later
     takes_new q w = gives_by (taking_on t g o area h ∙ rebuild_new keys seg box (found_none 0 _ (sym k ∙ q))) w

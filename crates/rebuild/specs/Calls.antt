@@ -1,17 +1,52 @@
 -- What the calls promise: the answer, every slot's record and the whole area.
-use Rattle.std.specs.Prelude.{◌≡◌, ℕ, ◌+◌, ◌<◌, ◌≤◌, List, length, ◌==◌}
+use Rattle.std.specs.Prelude.{◌≡◌, ℕ, ◌+◌, ◌<◌, ◌≤◌, List, length, set, ◌==◌, Result, Ok, Err}
 use Rattle.octets.specs.Choice.{pick}
+use Rattle.octets.specs.Refusal.{number_of}
+use Rattle.octets.specs.declared.refusal.Refusal.{Refusal}
 use Rattle.messages.specs.Slots as Messages
 use Rattle.messages.specs.Rows as Rules
 use Rattle.messages.specs.Rows.Answer.{refused, taken, completed}
 use Rattle.rebuild.specs.declared.Key.{Key}
 use Rattle.rebuild.specs.declared.Slots.{Slots}
 use Rattle.rebuild.specs.declared.Segment.{Segment}
-use Rattle.rebuild.specs.declared.Step.{Step}
-use Rattle.rebuild.specs.declared.Step.TheVariants.{Refused, Held, Complete}
-use Rattle.rebuild.specs.declared.Taken.{Taken}
-use Rattle.rebuild.specs.declared.Forgot.{Forgot}
-use Rattle.rebuild.specs.View.{keys, view, segment_of}
+use Rattle.rebuild.specs.declared.Step as Declared
+use Rattle.rebuild.specs.declared.Step.TheVariants as Answers
+use Rattle.rebuild.specs.declared.Taken as Call
+use Rattle.rebuild.specs.View.{keys, free_slot, view, segment_of}
+
+-- refused with a number; or held in a slot, or complete there, with the octets so far
+pub data Step : Type 0 where
+  Refused : ℕ → Step
+  Held : ℕ → ℕ → Step
+  Complete : ℕ → ℕ → Step
+
+pub record Taken : Type 0 where
+  pub answer : Step
+  pub slots : Slots
+
+pub record Forgot : Type 0 where
+  pub number : ℕ
+  pub slots : Slots
+
+-- the calls' answers, in document 01's numbers: t is the slots that an order was given, which a refused one leaves
+abbrev pub said_of : Result Declared.Step Refusal → Step
+said_of (Ok (Answers.Held i n)) = Held i n
+said_of (Ok (Answers.Complete i n)) = Complete i n
+said_of (Err r) = Refused (number_of r)
+
+abbrev pub taken_of : Call.Taken → Taken
+taken_of r = record { answer = said_of r.answer; slots = r.slots }
+
+abbrev pub forgot_of : Slots → Result Slots Refusal → Forgot
+forgot_of t (Ok u) = record { number = 0; slots = u }
+forgot_of t (Err r) = record { number = number_of r; slots = t }
+
+-- the answers that refuse: every slot is kept, or slot s is freed
+abbrev pub Kept : ℕ → Slots → Taken → Type 0
+Kept m t r = (r.answer ≡ Refused m) × (r.slots ≡ t)
+
+abbrev pub Lost : ℕ → Slots → ℕ → Taken → Type 0
+Lost m t s r = (r.answer ≡ Refused m) × (r.slots.slots ≡ set t.slots s free_slot)
 
 -- the answer's cases: the refusal's number; the slot and the octets held so far; the slot and the total
 abbrev pub step_of : Rules.Answer → Step

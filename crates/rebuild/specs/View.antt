@@ -1,5 +1,5 @@
 -- The slots that the code keeps, as the rules see them, and the page's key.
-use Rattle.std.specs.Prelude.{ℕ, ◌+◌, Bool, false, List, map, replicate, ◌==◌}
+use Rattle.std.specs.Prelude.{ℕ, ◌+◌, Bool, false, List, map, replicate, ◌==◌, Option as Found, Some, None}
 use Rattle.std.proofs.Math.Option.{Option, none, some}
 use Rattle.octets.specs.Choice.{both}
 use Rattle.npdu.specs.Address.{same_address, gives_source, gives_destination}
@@ -9,8 +9,6 @@ use Rattle.rebuild.specs.declared.Key.{Key}
 use Rattle.rebuild.specs.declared.Slot.{Slot}
 use Rattle.rebuild.specs.declared.Slots.{Slots}
 use Rattle.rebuild.specs.declared.Segment.{Segment}
-use Rattle.rebuild.specs.declared.search.Found.{Found}
-use Rattle.rebuild.specs.declared.search.Found.TheVariants.{At, Nothing}
 
 -- "Key: MS/TP source, MS/TP destination, PDU type, invoke ID", and "SNET, SADR, DNET and DADR from the network header, absence being distinct from
 -- every present value": keys are the same where all eight parts are
@@ -62,6 +60,6 @@ abbrev pub segment_of : Segment → List ℕ → Messages.Segment Key
 segment_of g o = record { key = g.key; number = g.number; mor = g.mor; choice = g.choice; octets = o }
 
 -- the place that a search from a start on found
-abbrev pub found : ℕ → Option ℕ → Found
-found start none = Nothing
-found start (some i) = At (start + i)
+abbrev pub found : ℕ → Option ℕ → Found ℕ
+found start none = None
+found start (some i) = Some (start + i)

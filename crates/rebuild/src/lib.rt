@@ -7,14 +7,14 @@ pub mod search;
 ghost use Rattle.std.specs.Prelude.{◌≡◌};
 ghost use Rattle.messages.specs.Sound.{passes};
 ghost use Rattle.rebuild.specs.View.{keys, view, fresh};
-ghost use Rattle.rebuild.specs.Calls.{Gives, taking, Forgets};
+ghost use Rattle.rebuild.specs.Calls.{Gives, taking, taken_of, Forgets, forgot_of};
 
-use crate::search::Found;
 use npdu::Address;
+use octets::Refusal;
 
 // The key: MS/TP source, MS/TP destination, PDU type, invoke ID, and where the network header says that it comes from (SNET, SADR) and goes to (DNET, DADR).
 #[repr(C)]
-#[derive(Clone, Copy)]
+#[derive(Clone, Copy, PartialEq, Eq)]
 pub struct Key {
     pub source: u8,
     pub destination: u8,
@@ -25,6 +25,7 @@ pub struct Key {
 }
 
 // A slot's record: the number that must come next, the service choice, the octets held. A free slot is all zero.
+// Stays: (a) a flag beside its values: a state area's free slot may hold any octets, and they stay as they are (state/Judging `slot_fair`, state/Layout `slots_octets`).
 #[repr(C)]
 #[derive(Clone, Copy)]
 pub struct Slot {
@@ -80,88 +81,60 @@ pub struct Segment {
     pub choice: u8,
 }
 
-// Refused with a number; or held in a slot, or complete there, with the octets so far.
+// Held in a slot, or complete there, with the octets so far.
 #[derive(Clone, Copy)]
 pub enum Step {
-    Refused(u8),
     Held(u8, u16),
     Complete(u8, u16),
 }
 
+// The answer to a segment, and the slots behind it: one that is refused with 54 has lost its slot.
 #[derive(Clone, Copy)]
 pub struct Taken {
-    pub answer: Step,
-    pub slots: Slots,
-}
-
-#[derive(Clone, Copy)]
-pub struct Forgot {
-    pub number: u8,
+    pub answer: Result<Step, Refusal>,
     pub slots: Slots,
 }
 
 // A segment: its parameters are laid in the lent message area, which is 65,536 octets or refused with 60.
 #[tactic(auto, using(crate::proofs::Ways::found_here, crate::proofs::Ways::takes_60, crate::proofs::Ways::takes_new, crate::proofs::Ways::takes_open))]
 pub fn take(slots: Slots, g: Segment, octets: &[u8], area: &mut [u8]) -> Taken
-    ensures { Gives (taking slots g octets.now area.old) result area.new }
+    ensures { Gives (taking slots g octets.now area.old) (taken_of result) area.new }
 {
     if area.len() != 65536 {
-        return rows::kept(slots, 60);
+        return rows::kept(slots, Refusal::AreaSize);
     }
-    let k = g.key;
-    match search::open_slot(slots, k, 0) {
-        Found::At(s) => rows::take_open(slots, s, g, octets, area),
-        Found::Nothing => rows::take_new(slots, g, octets, area),
+    let area = area.first_chunk_mut().unwrap();
+    match search::open_slot(slots, g.key, 0) {
+        Some(s) => rows::take_open(slots, s, g, octets, area),
+        None => rows::take_new(slots, g, octets, area),
     }
 }
 
-// A forget order: 0 and the slot is free, or 56 and nothing changes.
+// A forget order: the slots with this one free, or 56.
 #[tactic(auto, using(crate::proofs::Ways::forget_free, crate::proofs::Ways::forget_open))]
-pub fn forget(slots: Slots, s: u8) -> Forgot
-    ensures { Forgets slots s result }
+pub fn forget(slots: Slots, s: u8) -> Result<Slots, Refusal>
+    ensures { Forgets slots s (forgot_of slots result) }
 {
-    if 3 < s {
-        return Forgot {
-            number: 56,
-            slots: slots,
-        };
+    let at = usize::from(s);
+    if at < 4 && slots.slots[at].used {
+        return Ok(rows::with_slot(slots, at, Slot::FREE));
     }
-    let at = octets::wide(s);
-    let x = slots.slots[at];
-    let used = x.used;
-    if used {
-        return Forgot {
-            number: 0,
-            slots: rows::with_slot(slots, at, Slot::FREE),
-        };
-    }
-    Forgot {
-        number: 56,
-        slots: slots,
-    }
+    Err(Refusal::SlotNotOpen)
 }
 
 // 59's part for slots: none holds over 16,384, open slots' keys are given, no two open slots have one key.
-#[tactic(auto, using(crate::proofs::Ways::passing_on, crate::proofs::Ways::sound_all, crate::proofs::Ways::unsound_held, crate::proofs::Ways::unsound_key, crate::proofs::Ways::unsound_twice))]
+#[tactic(auto, using(crate::proofs::Ways::passing_free, crate::proofs::Ways::passing_on, crate::proofs::Ways::sound_all, crate::proofs::Ways::unsound_held, crate::proofs::Ways::unsound_key, crate::proofs::Ways::unsound_twice))]
 pub fn sound(slots: Slots) -> bool
     ensures { result ≡ passes keys 4 (view slots) }
 {
-    let mut s = 0;
-    while s < 4 {
+    for s in 0..4 {
         let x = slots.slots[s];
         if 16384 < x.held {
             return false;
         }
-        let is_open = x.used;
-        if is_open {
-            if search::strange(x) {
-                return false;
-            }
-            if search::twice(slots, s) {
-                return false;
-            }
+        if x.used && (search::strange(x) || search::twice(slots, s)) {
+            return false;
         }
-        s += 1;
     }
     true
 }

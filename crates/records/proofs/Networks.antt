@@ -33,6 +33,13 @@ module _ (h : Npdu) (k : Kept h) where
       let n : length (a ++ b) ≡ 29 = rw (length-append, p, q) in
       laid_whole area (a ++ b) l₂ (m ∙ sym n) (two_laid area 0 15 a b e₁ e₂ (omega arith) (omega arith)) ∙ simp append_assoc
 
+-- the high octet of a number of two octets, and of four
+pub high_two : (v : ℕ) → v < 65536 → v / 256 % 256 ≡ v / 256
+high_two v h = omega arith
+
+pub high_four : (v : ℕ) → v < 4294967296 → v / 16777216 % 256 ≡ v / 16777216
+high_four v h = omega arith
+
 pub two_back : (v : ℕ) → v / 256 * 256 + v % 256 ≡ v
 two_back v = omega arith
 

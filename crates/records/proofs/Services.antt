@@ -1,4 +1,4 @@
--- The service's record: its size, its laying, and what is read back of it.
+-- The service's record: its size, and what is read back of it.
 use Prim.Native.Nat.{ℕ, ◌+◌, ◌/◌, ◌%◌, ◌≤◌, ◌<◌}
 use native.Mathlib.Omega.{arith}
 use mathlib.Core.Path.{◌≡◌, refl, ap, ◌∙◌}
@@ -7,13 +7,11 @@ use lib.ListN.{length, get_or}
 use lib.Dec.{lit≤}
 use Rattle.octets.specs.Reading.{oct}
 use Rattle.octets.specs.Numbers.{value_at}
-use Rattle.octets.specs.Splice.{splice}
 use Rattle.services.specs.declared.Service.{Service}
 use Rattle.services.specs.declared.Service.TheVariants.{ReadProperty, ReadPropertyAck, WriteProperty, WhoIs, IAm, Error}
 use Rattle.records.specs.Flag.{flag_back}
 use Rattle.records.specs.Service.{low32, fields_of, field_octets, service_record, fields_at, service_of, service_at, Spanned}
 use Rattle.records.specs.declared.service.Fields.{Fields}
-use Rattle.records.proofs.Areas.{laid_whole}
 use Rattle.records.proofs.Networks.{two_back}
 
 pub service_size_lem : (v : Service) → length (service_record v) ≡ 26
@@ -29,10 +27,6 @@ service_sort (WriteProperty w) = lit≤ tt
 service_sort (WhoIs w) = lit≤ tt
 service_sort (IAm i) = lit≤ tt
 service_sort (Error f) = lit≤ tt
-
-pub service_laid : (v : Service) (f : Fields) (r area later : List ℕ) → f ≡ fields_of v → r ≡ field_octets f → later ≡ splice area 0 r → length area ≡ 26 → later ≡ service_record v
-unfolding service_record
-service_laid v f r area later e d l k = laid_whole area (field_octets (fields_of v)) later k (l ∙ rw (d, e))
 
 -- four octets that are a number's
 four_back : (s : List ℕ) (p v : ℕ) → get_or s p 0 ≡ v / 16777216 → get_or s (p + 1) 0 ≡ v / 65536 % 256 → get_or s (p + 2) 0 ≡ v / 256 % 256 → get_or s (p + 3) 0 ≡ v % 256 → value_at s p 4 ≡ v

@@ -1,4 +1,5 @@
 -- The value of a service that was read stands inside the parameters, so that its place and length fit the record.
+use Rattle.std.specs.Prelude.{Ok}
 use Prim.Native.Nat.{ℕ, ◌≤◌}
 use native.Mathlib.Omega.{arith}
 use mathlib.Core.Path.{◌≡◌, refl, sym, subst}
@@ -15,8 +16,7 @@ use Rattle.items.proofs.Exact.{written}
 use Rattle.services.specs.Reading.{layout_for, after_tags, read_service}
 use Rattle.services.specs.Reading as reading
 use Rattle.services.specs.Shows.{message_of}
-use Rattle.services.specs.declared.Answer.{Answer}
-use Rattle.services.specs.declared.Answer.TheVariants.{Good}
+use Rattle.services.specs.Parts.{Answer}
 use Rattle.services.specs.declared.Service.{Service}
 use Rattle.services.specs.declared.Service.TheVariants.{ReadProperty, ReadPropertyAck, WriteProperty, WhoIs, IAm, Error}
 use Rattle.services.proofs.Things.{never, Here, valued_length, group_read, option_read, last_read}
@@ -26,20 +26,20 @@ use Rattle.records.specs.Service.{service_record, service_at, Spanned}
 use Rattle.records.proofs.Services.{service_back}
 
 -- the items of the parameters, standing at their front
-tags_here : (o : List ℕ) → Octets o → (f : List Rec → Answer) (v : Service) → after_tags f (items_of o) ≡ Good v → (ts : List Thing) × Here o 0 ts × (f (records_from 0 0 ts) ≡ Good v) × (length o ≤ 16384)
+tags_here : (o : List ℕ) → Octets o → (f : List Rec → Answer) (v : Service) → after_tags f (items_of o) ≡ Ok v → (ts : List Thing) × Here o 0 ts × (f (records_from 0 0 ts) ≡ Ok v) × (length o ≤ 16384)
 tags_here o os f v e = from (items_of o) refl e
   where
-    from : (out : Out) → items_of o ≡ out → after_tags f out ≡ Good v → (ts : List Thing) × Here o 0 ts × (f (records_from 0 0 ts) ≡ Good v) × (length o ≤ 16384)
+    from : (out : Out) → items_of o ≡ out → after_tags f out ≡ Ok v → (ts : List Thing) × Here o 0 ts × (f (records_from 0 0 ts) ≡ Ok v) × (length o ≤ 16384)
     from (good rs end) z d =
         let w = written o os rs end z in
         let ts = w.things in
         let h : Here o 0 ts = record { valid = w.grammar.valid; stands = subst (λ (x : List ℕ). Has x 0 (encode_all ts)) (sym w.octets) (all_has (encode_all ts)); inside = omega arith; room = most_items; most = omega arith; balanced = w.grammar.balanced } in
         let n : length o ≤ 16384 = rw w.octets w.grammar.short in
-        (ts, h, subst (λ (x : List Rec). f x ≡ Good v) w.records d, n)
+        (ts, h, subst (λ (x : List Rec). f x ≡ Ok v) w.records d, n)
     from (bad x) z d = never x v d
 
 module _ (o : List ℕ) (os : Octets o) where
-  ack_spans : (v : Service) → read_service 3 12 o ≡ Good v → Spanned v
+  ack_spans : (v : Service) → read_service 3 12 o ≡ Ok v → Spanned v
   unfolding read_service layout_for reading.read_property_ack
   ack_spans v e =
       let h = tags_here o os (layout_for 3 12 o) v e in
@@ -51,7 +51,7 @@ module _ (o : List ℕ) (os : Octets o) where
       let m = h.3 in
       subst Spanned l.1 (omega arith, omega arith)
 
-  write_spans : (v : Service) → read_service 0 15 o ≡ Good v → Spanned v
+  write_spans : (v : Service) → read_service 0 15 o ≡ Ok v → Spanned v
   unfolding read_service layout_for reading.write_property
   write_spans v e =
       let h = tags_here o os (layout_for 0 15 o) v e in
@@ -64,7 +64,7 @@ module _ (o : List ℕ) (os : Octets o) where
       let m = h.3 in
       subst Spanned l.1 (omega arith, omega arith)
 
-  pub read_spans : (kind choice : ℕ) (v : Service) → read_service kind choice o ≡ Good v → Spanned v
+  pub read_spans : (kind choice : ℕ) (v : Service) → read_service kind choice o ≡ Ok v → Spanned v
   unfolding message_of
   read_spans kind choice (ReadProperty t) e = tt
   read_spans kind choice (ReadPropertyAck a) e =
@@ -78,5 +78,5 @@ module _ (o : List ℕ) (os : Octets o) where
   read_spans kind choice (Error f) e = tt
 
   -- a service that was read goes into a record and comes back as it was
-  pub service_read_back : (kind choice : ℕ) (v : Service) → read_service kind choice o ≡ Good v → service_at (service_record v) ≡ v
+  pub service_read_back : (kind choice : ℕ) (v : Service) → read_service kind choice o ≡ Ok v → service_at (service_record v) ≡ v
   service_read_back kind choice v e = service_back v (read_spans kind choice v e)

@@ -5,20 +5,9 @@ ghost use Rattle.items.specs.Records.{rec, record_octets};
 fn octets_of(kind: u8, number: u8, value: u8, place: usize, len: usize) -> [u8; 12]
     ensures { result ≡ record_octets (rec kind number 0 value place len) }
 {
-    [
-        kind,
-        number,
-        0,
-        value,
-        (place / 16777216 % 256) as u8,
-        (place / 65536 % 256) as u8,
-        (place / 256 % 256) as u8,
-        (place % 256) as u8,
-        (len / 16777216 % 256) as u8,
-        (len / 65536 % 256) as u8,
-        (len / 256 % 256) as u8,
-        (len % 256) as u8,
-    ]
+    let [.., p3, p2, p1, p0] = place.to_be_bytes();
+    let [.., l3, l2, l1, l0] = len.to_be_bytes();
+    [kind, number, 0, value, p3, p2, p1, p0, l3, l2, l1, l0]
 }
 
 // The record of an item.
@@ -26,6 +15,5 @@ pub fn put(kind: u8, number: u8, value: u8, place: usize, len: usize, out: &mut 
     requires { length out.old ≡ 12 }
     ensures { out.new ≡ record_octets (rec kind number 0 value place len) }
 {
-    let r = octets_of(kind, number, value, place, len);
-    octets::copy(&r, out, 0);
+    out.copy_from_slice(&octets_of(kind, number, value, place, len));
 }

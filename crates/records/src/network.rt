@@ -1,6 +1,5 @@
 // The network header's record.
-ghost use Rattle.std.specs.Prelude.{◌≡◌, ◌++◌, ◌+◌, ◌≤◌, length, take, drop};
-ghost use Rattle.octets.specs.Splice.{splice};
+ghost use Rattle.std.specs.Prelude.{◌≡◌, ◌+◌, ◌≤◌, length, take, drop};
 ghost use Rattle.records.specs.Network.{front, middle, rest, npdu_record, npdu_at};
 
 use npdu::Npdu;
@@ -10,9 +9,8 @@ fn seven(o: &[u8], at: usize) -> [u8; 7]
     requires { at + 7 ≤ length o.now }
     ensures { result ≡ take 7 (drop at o.now) }
 {
-    let mut a = [0u8; 7];
-    let end = at + 7;
-    octets::copy(&o[at..end], &mut a, 0);
+    let mut a = [0; 7];
+    a.copy_from_slice(&o[at..at + 7]);
     a
 }
 
@@ -21,8 +19,6 @@ pub fn get(o: &[u8]) -> Npdu
     requires { length o.now ≡ 29 }
     ensures { result ≡ npdu_at o.now }
 {
-    let d = seven(o, 8);
-    let s = seven(o, 18);
     Npdu {
         message: 0 < o[0],
         dest: 0 < o[1],
@@ -31,10 +27,10 @@ pub fn get(o: &[u8]) -> Npdu
         priority: o[4],
         dnet: octets::pair(o[5], o[6]),
         dlen: o[7],
-        dadr: d,
+        dadr: seven(o, 8),
         snet: octets::pair(o[15], o[16]),
         slen: o[17],
-        sadr: s,
+        sadr: seven(o, 18),
         hops: o[25],
         kind: o[26],
         vendor: octets::pair(o[27], o[28]),
@@ -42,60 +38,34 @@ pub fn get(o: &[u8]) -> Npdu
 }
 
 // What stands before DADR, between it and SADR, and after that.
-fn front_octets(h: Npdu) -> [u8; 8]
+fn front(h: Npdu) -> [u8; 8]
     ensures { result ≡ front h }
 {
+    let [high, low] = h.dnet.to_be_bytes();
     [
-        h.message as u8,
-        h.dest as u8,
-        h.source as u8,
-        h.reply as u8,
+        u8::from(h.message),
+        u8::from(h.dest),
+        u8::from(h.source),
+        u8::from(h.reply),
         h.priority,
-        (h.dnet / 256) as u8,
-        (h.dnet % 256) as u8,
+        high,
+        low,
         h.dlen,
     ]
 }
 
-fn middle_octets(h: Npdu) -> [u8; 3]
+fn middle(h: Npdu) -> [u8; 3]
     ensures { result ≡ middle h }
 {
-    [(h.snet / 256) as u8, (h.snet % 256) as u8, h.slen]
+    let [high, low] = h.snet.to_be_bytes();
+    [high, low, h.slen]
 }
 
-fn rest_octets(h: Npdu) -> [u8; 4]
+fn rest(h: Npdu) -> [u8; 4]
     ensures { result ≡ rest h }
 {
-    [
-        h.hops,
-        h.kind,
-        (h.vendor / 256) as u8,
-        (h.vendor % 256) as u8,
-    ]
-}
-
-// The record's first half: through DADR.
-fn put_front(h: Npdu, out: &mut [u8])
-    requires { length out.old ≡ 29 }
-    ensures { out.new ≡ splice out.old 0 (front h ++ h.dadr) }
-{
-    let a = front_octets(h);
-    let d = h.dadr;
-    octets::copy(&a, out, 0);
-    octets::copy(&d, out, 8);
-}
-
-// Its second half: from SNET on.
-fn put_rest(h: Npdu, out: &mut [u8])
-    requires { length out.old ≡ 29 }
-    ensures { out.new ≡ splice out.old 15 (middle h ++ (h.sadr ++ rest h)) }
-{
-    let a = middle_octets(h);
-    let d = h.sadr;
-    let b = rest_octets(h);
-    octets::copy(&a, out, 15);
-    octets::copy(&d, out, 18);
-    octets::copy(&b, out, 25);
+    let [high, low] = h.vendor.to_be_bytes();
+    [h.hops, h.kind, high, low]
 }
 
 // The record of a header.
@@ -103,6 +73,9 @@ pub fn put(h: Npdu, out: &mut [u8])
     requires { length out.old ≡ 29 }
     ensures { out.new ≡ npdu_record h }
 {
-    put_front(h, out);
-    put_rest(h, out);
+    octets::copy(&front(h), out, 0);
+    octets::copy(&h.dadr, out, 8);
+    octets::copy(&middle(h), out, 15);
+    octets::copy(&h.sadr, out, 18);
+    octets::copy(&rest(h), out, 25);
 }

@@ -4,7 +4,7 @@
 mod player;
 mod tape;
 
-use listening::wish;
+use listening::wish::{self, Wish};
 
 fn usage(rt: &impl Eprint) {
     wish::say(
@@ -15,13 +15,18 @@ fn usage(rt: &impl Eprint) {
 }
 
 fn main(rt: HostRuntime) {
-    let w = wish::read(&rt);
-    if w.wrong || w.csv || w.octets || w.file == 0 {
-        usage(&rt);
-        return;
-    }
-    if let Some(mut f) = wish::open(&rt, w.file) {
-        let book = words::book();
-        tape::replay(&rt, &book, w.edition(), &mut f);
+    let Some(
+        Wish {
+            csv: false,
+            octets: false,
+            edition,
+            file: Some(file),
+        },
+    ) = wish::read(&rt)
+    else {
+        return usage(&rt);
+    };
+    if let Some(mut f) = wish::open(&rt, file) {
+        tape::replay(&rt, edition, &mut f);
     }
 }

@@ -1,147 +1,103 @@
-// The replay between two calls, over the lent frame store and message area, and what is told of a call.
+// The replay between two calls, and what is told of a call.
 use apdu::Edition;
 use frames::{Link, Receiver};
-use listening::output;
-use listening::output::Gathered;
+use lines::Report;
+use listening::output::Output;
+use octets::Refusal;
 use playback::lent;
 use rebuild::Slots;
-use words::fill;
 
-// `edition`: chosen once, for the whole file; `records`: eaten so far, from the file's first on; `refused`: the number that ended the replay, 0 before;
-// `at`: the octets gathered for writing; `more`: the last call reported, the rest is offered again; `stopped`: nothing more can be written.
-// `open`: the file goes on; `held`: octets of a record of which the others have not come yet.
-#[derive(Clone, Copy)]
+// `edition`: chosen once, for the whole file; `records`: eaten so far, from the file's first on; `refused`: whether one of them ended the replay;
+// `items`: an area for the records of a value's items, as `listening` has it.
+#[derive(Drop)]
 pub struct Player {
-    pub edition: Edition,
-    pub link: Link,
-    pub slots: Slots,
-    pub records: u64,
-    pub refused: u8,
-    pub at: usize,
-    pub more: bool,
-    pub stopped: bool,
-    pub open: bool,
-    pub held: usize,
+    edition: Edition,
+    link: Link,
+    slots: Slots,
+    store: [u8; 501],
+    area: [u8; 65536],
+    records: u64,
+    refused: bool,
+    items: [u8; 24576],
+    pub out: Output,
 }
 
 impl Player {
-    // So many octets gathered. Where nothing more can be written the program stops.
-    fn wrote(self, g: Gathered) -> Player {
-        let mut p = self;
-        p.at = g.at;
-        if g.stopped {
-            p.stopped = true;
-            p.more = false;
-            p.open = false;
+    pub fn new(edition: Edition) -> Player {
+        Player {
+            edition,
+            link: Receiver::FRESH.link,
+            slots: Slots::fresh(),
+            store: [0; 501],
+            area: [0; 65536],
+            records: 0,
+            refused: false,
+            items: [0; 24576],
+            out: Output::new(),
         }
-        p
     }
 
-    // The next piece may be offered: not behind a refused record.
-    pub fn going(self) -> Player {
-        let mut p = self;
-        p.more = p.refused == 0 && !p.stopped;
-        p
-    }
-
-    // What is gathered is written out, so many octets being held over.
-    pub fn flushed(self, rt: &(impl Print + Eprint), held: usize, out: &[u8; 131072]) -> Player {
-        let mut p = self;
-        p.held = held;
-        if p.stopped {
-            return p;
+    // Whole records, none behind a refused one: what a call leaves after a report is offered again. Each report eats a record, so no more calls than
+    // octets are needed.
+    pub fn piece(&mut self, rt: &(impl Print + Eprint), s: &[u8]) {
+        let mut rest = s;
+        for _ in 0..s.len() {
+            if self.refused || self.out.stopped() {
+                break;
+            }
+            let mut report = [0u8; 16];
+            let w = lent::replay(
+                self.edition,
+                self.link,
+                self.slots,
+                &mut self.store,
+                rest,
+                &mut report,
+                &mut self.area,
+            );
+            self.link = w.link;
+            if w.moved {
+                self.slots = w.slots;
+            }
+            self.records = self.records.wrapping_add(w.eaten as u64);
+            if let Err(e) = w.answer {
+                self.refuse(rt, e);
+                break;
+            }
+            if !w.reported {
+                break;
+            }
+            self.tell(rt, &report);
+            rest = rest
+                .get(w.eaten.saturating_mul(playback::SIZE)..)
+                .unwrap_or(b"");
         }
-        p.wrote(output::flush(rt, p.at, out))
     }
 
-    // The file is read no further.
-    pub fn closed(self, held: usize) -> Player {
-        let mut p = self;
-        p.held = held;
-        p.open = false;
-        p
+    // The record that ends the replay, by its number in the file. No other number than 67 comes: the areas have their sizes, the state was fresh.
+    fn refuse(&mut self, rt: &(impl Print + Eprint), e: Refusal) {
+        self.refused = true;
+        let number = e.number();
+        let record = self.records.wrapping_add(1);
+        let mut pen = self.out.pen();
+        write!(
+            pen,
+            "record {record}: refused, {number}: kind above 2, third or fourth octet not 0, or a silence with a value\n"
+        );
+        let at = pen.at();
+        self.out.told(rt, at);
     }
-}
 
-pub fn fresh(edition: Edition) -> Player {
-    let r = Receiver::FRESH;
-    let link = r.link;
-    let slots = Slots::fresh();
-    Player {
-        edition,
-        link,
-        slots,
-        records: 0,
-        refused: 0,
-        at: 0,
-        more: true,
-        stopped: false,
-        open: true,
-        held: 0,
+    // What is told of a report.
+    fn tell(&mut self, rt: &(impl Print + Eprint), octets: &[u8; 16]) {
+        let report = Report {
+            octets,
+            data: &self.store,
+            area: &self.area,
+        };
+        let mut pen = self.out.pen();
+        report.recorded(&mut pen, self.records, &mut self.items);
+        let at = pen.at();
+        self.out.told(rt, at);
     }
-}
-
-// What one call eats of the records.
-fn eat(
-    p: Player,
-    rest: &[u8],
-    store: &mut [u8; 501],
-    report: &mut [u8; 16],
-    area: &mut [u8; 65536],
-) -> Player {
-    let edition = p.edition;
-    let link = p.link;
-    let slots = p.slots;
-    let w = lent::replay(edition, link, slots, store, rest, report, area);
-    let link = w.link;
-    let slots = w.slots;
-    Player {
-        edition,
-        link,
-        slots,
-        records: std::num::wrapping_add_u64(p.records, w.eaten as u64),
-        refused: w.refused,
-        at: p.at,
-        more: w.reported,
-        stopped: p.stopped,
-        open: p.open,
-        held: p.held,
-    }
-}
-
-// The record that ends the replay, by its number in the file. No other number than 67 comes: the areas have their sizes, the state was fresh.
-fn refused(rt: &(impl Print + Eprint), book: &[u8], p: Player, out: &mut [u8; 131072]) -> Player {
-    let a = fill(
-        book,
-        b"record #1: refused, #2: kind above 2, third or fourth octet not 0, or a silence with a value\n",
-        std::num::wrapping_add_u64(p.records, 1),
-        p.refused as u64,
-        0,
-        out,
-        p.at,
-    );
-    p.wrote(output::when_full(rt, a, out))
-}
-
-// One call, and what is told of it. `items`: an area for the records of a value's items, as `listening` has it.
-pub fn turn(
-    rt: &(impl Print + Eprint),
-    book: &[u8],
-    p: Player,
-    rest: &[u8],
-    store: &mut [u8; 501],
-    area: &mut [u8; 65536],
-    items: &mut [u8; 24576],
-    out: &mut [u8; 131072],
-) -> Player {
-    let mut report = [0u8; 16];
-    let q = eat(p, rest, store, &mut report, area);
-    if q.refused != 0 {
-        return refused(rt, book, q, out);
-    }
-    if q.more {
-        let a = lines::recorded(book, q.records, &report, store, area, items, out, q.at);
-        return q.wrote(output::when_full(rt, a, out));
-    }
-    q
 }

@@ -1,12 +1,9 @@
 -- A report's sixteen octets, one by one.
 use Prim.Native.Nat.{ℕ, ◌/◌, ◌%◌}
-use mathlib.Core.Path.{◌≡◌, sym, ap, ◌∙◌}
+use mathlib.Core.Path.{◌≡◌, ap}
 use mathlib.Core.List.{List, [], ◌∷◌}
-use native.Mathlib.Omega.{arith}
 use lib.ListN.{length}
-use lib.Seq.{sets}
 use Rattle.octets.specs.Numbers.{digits_four}
-use Rattle.octets.specs.Splice.{splice_sets, splice_whole}
 use Rattle.reports.specs.declared.Report.{Report}
 use Rattle.reports.specs.Layout.{report_size, report_octets}
 
@@ -22,10 +19,3 @@ octets_of_lem r = rw (digits_four r.length)
 -- "One record of 16 octets"
 pub report_size_lem : (r : Report) → length (report_octets r) ≡ report_size
 report_size_lem r = ap length (octets_of_lem r)
-
--- stored one by one over an area of as many
-over_all : (o out : List ℕ) → length out ≡ length o → sets out 0 o ≡ o
-over_all o out h = splice_sets out 0 o (omega arith) ∙ splice_whole out o h
-
-pub stored : (r : Report) (out : List ℕ) → length out ≡ report_size → sets out 0 (octets_of r) ≡ report_octets r
-stored r out h = over_all (octets_of r) out h ∙ sym (octets_of_lem r)

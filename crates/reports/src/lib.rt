@@ -42,6 +42,7 @@ impl Apdu {
 }
 
 // All that a report says; what its kind or PDU lacks is 0.
+// Stays: (a) kind and refusal are numbers, octets 0 and 1 of the record that C reads, and any octet is read back there (specs/Reading: `report_at`).
 #[derive(Clone, Copy)]
 pub struct Report {
     pub kind: u8,
@@ -52,18 +53,27 @@ pub struct Report {
     pub length: u32,
 }
 
+// Stays: (d) a function for each kind, though two and two differ in its number alone: they have the page's names, and each its definition (specs/Kinds).
 impl Report {
+    // What a kind does not fill is 0.
+    const NONE: Report = Report {
+        kind: 0,
+        number: 0,
+        frame: Frame::NONE,
+        apdu: Apdu::NONE,
+        slot: 0,
+        length: 0,
+    };
+
     // Kind 1: a frame of a type other than 5 and 6, and the octets of its data.
     pub fn other_frame(frame: Frame, length: u32) -> Report
         ensures { result ≡ other_frame frame length }
     {
         Report {
             kind: 1,
-            number: 0,
             frame,
-            apdu: Apdu::NONE,
-            slot: 0,
             length,
+            ..Report::NONE
         }
     }
 
@@ -74,10 +84,7 @@ impl Report {
         Report {
             kind: 2,
             number,
-            frame: Frame::NONE,
-            apdu: Apdu::NONE,
-            slot: 0,
-            length: 0,
+            ..Report::NONE
         }
     }
 
@@ -87,11 +94,10 @@ impl Report {
     {
         Report {
             kind: 3,
-            number: 0,
             frame,
             apdu,
-            slot: 0,
             length,
+            ..Report::NONE
         }
     }
 
@@ -101,11 +107,11 @@ impl Report {
     {
         Report {
             kind: 4,
-            number: 0,
             frame,
             apdu,
             slot,
             length,
+            ..Report::NONE
         }
     }
 
@@ -115,11 +121,11 @@ impl Report {
     {
         Report {
             kind: 5,
-            number: 0,
             frame,
             apdu,
             slot,
             length,
+            ..Report::NONE
         }
     }
 
@@ -131,9 +137,7 @@ impl Report {
             kind: 6,
             number,
             frame,
-            apdu: Apdu::NONE,
-            slot: 0,
-            length: 0,
+            ..Report::NONE
         }
     }
 
@@ -143,11 +147,9 @@ impl Report {
     {
         Report {
             kind: 7,
-            number: 0,
             frame,
-            apdu: Apdu::NONE,
-            slot: 0,
             length,
+            ..Report::NONE
         }
     }
 }
@@ -157,23 +159,24 @@ pub fn put(r: Report, out: &mut [u8])
     requires { length out.old ≡ report_size }
     ensures { out.new ≡ report_octets r }
 {
-    let frame = r.frame;
-    let apdu = r.apdu;
-    let n = r.length;
-    out[0] = r.kind;
-    out[1] = r.number;
-    out[2] = frame.kind;
-    out[3] = frame.destination;
-    out[4] = frame.source;
-    out[5] = apdu.first;
-    out[6] = apdu.invoke;
-    out[7] = r.slot;
-    out[8] = (n / 16777216 % 256) as u8;
-    out[9] = (n / 65536 % 256) as u8;
-    out[10] = (n / 256 % 256) as u8;
-    out[11] = (n % 256) as u8;
-    out[12] = apdu.choice;
-    out[13] = 0;
-    out[14] = 0;
-    out[15] = 0;
+    let Report { frame, apdu, .. } = r;
+    let [a, b, c, d] = r.length.to_be_bytes();
+    out.copy_from_slice(&[
+        r.kind,
+        r.number,
+        frame.kind,
+        frame.destination,
+        frame.source,
+        apdu.first,
+        apdu.invoke,
+        r.slot,
+        a,
+        b,
+        c,
+        d,
+        apdu.choice,
+        0,
+        0,
+        0,
+    ]);
 }

@@ -6,23 +6,26 @@ use mathlib.Core.List.{List, [], ◌∷◌, ◌++◌}
 use mathlib.Core.Bool.{Bool}
 use lib.ListN.{length, get_or, take, drop, length-append, length-drop}
 use lib.Seq.{take-length}
-use borrow.Author.Tests.{lt-ltb, le-ltb, ne_eqb}
+use borrow.Author.Tests.{lt-ltb, le-ltb}
 use Rattle.octets.specs.Splice.{splice, splice_then, splice_inside}
+use Rattle.std.specs.Prelude.{Ok, Err}
+use Rattle.octets.specs.declared.refusal.Refusal.{Refusal}
+use Rattle.octets.specs.Refusal.{number_of}
 use Rattle.tags.specs.Types.{longest}
 use Rattle.tags.specs.Reading.{head_at}
-use Rattle.tags.specs.declared.Tag.TheVariants.{Item}
+use Rattle.tags.specs.Head.Tag.{Item}
 use Rattle.items.specs.Reading.{walk}
 use Rattle.service_writer.specs.declared.judge.Phase.TheVariants.{Inside}
 use Rattle.service_writer.specs.declared.judge.Reached.{Reached}
 use Rattle.service_writer.specs.declared.judge.Cut.{Cut}
-use Rattle.service_writer.specs.Judging.{out_fault, reading, past_item, moved_to, cut_of, FitsOne, Halted, Ready, Small, Ran}
+use Rattle.service_writer.specs.Judging.{out_fault, reading, moved_to, cut_of, FitsOne, Halted, Ready, Small, Stepped, Ran}
 use Rattle.service_writer.proofs.Cuts.{Reaches, cut_head}
-use Rattle.service_writer.proofs.Going.{step_refused, stepped_item, reading_moved, reading_rest}
+use Rattle.service_writer.proofs.Going.{step_refused, reading_moved, reading_rest}
 
 -- an item that began nine octets before the end or more
 module _ (s b : List ℕ) (request : Bool) (q : Reached) (halted : Halted s q) (room : q.at + 9 ≤ length s) (c : Cut) (is : c ≡ cut_of s q.at) where
   ready : Ready q
-  ready = ((halted.0.1 (omega arith)).0, halted.1, halted.2)
+  ready = ((halted.0.1 (omega arith)).0, halted.1)
 
   reaches : Reaches s b c (head_at (s ++ b) q.at)
   reaches = subst (λ (x : Cut). Reaches s b x (head_at (s ++ b) q.at)) (sym is) (cut_head s b q.at room (halted.0.1 (omega arith)).1)
@@ -33,35 +36,25 @@ module _ (s b : List ℕ) (request : Bool) (q : Reached) (halted : Halted s q) (
   pub cut_facts : (c.len ≤ longest) × (c.place ≤ length s) × (length s < c.place + c.len)
   cut_facts = (reaches.small, reaches.begins, reaches.ends)
 
-  fits : FitsOne s c.place c.len
-  fits e = absurd (omega (arith, reaches.long))
-
-  pub cut_fits : length s + length b ≤ longest → (0 < q.left) × (c.place + c.len ≤ longest + longest) × FitsOne s c.place c.len
-  cut_fits small = (ready.0, omega (arith, reaches.small, reaches.begins), fits)
+  pub cut_fits : length s + length b ≤ longest → Ready q × (c.place + c.len ≤ longest + longest) × FitsOne s c.place c.len
+  cut_fits small = (ready, omega (arith, reaches.small, reaches.begins), λ e. absurd (omega (arith, reaches.long)))
 
   pub beyond_none : length s + length b < c.place + c.len → 30 ≡ reading (s ++ b) request q
   beyond_none h =
       let l : length (s ++ b) < c.place + c.len = omega (arith, length-append s b) in
       sym (step_refused (s ++ b) request q ready there 30 (reaches.tag ∙ rw (lt-ltb (length (s ++ b)) (c.place + c.len) l)))
 
-  module _ (h : c.place + c.len ≤ length s + length b) (x : Reached) (past : x ≡ past_item s request q c.kind c.number c.place c.len) (y : Reached) (moved : y ≡ moved_to x (c.place + c.len - length s)) where
+  module _ (h : c.place + c.len ≤ length s + length b) (x : Reached) (w : Stepped s request q (Item c.kind c.number 0 c.place c.len) (Ok x)) where
     tag : head_at (s ++ b) q.at ≡ Item c.kind c.number 0 c.place c.len
     tag = let l : c.place + c.len ≤ length (s ++ b) = omega (arith, length-append s b) in reaches.tag ∙ rw (le-ltb (length (s ++ b)) (c.place + c.len) l)
 
-    pub beyond_some : (r : ℕ) → r ≡ reading b request y → r ≡ reading (s ++ b) request q
-    unfolding past_item
+    pub beyond_some : (r : ℕ) → r ≡ reading b request (moved_to x (c.place + c.len - length s)) → r ≡ reading (s ++ b) request q
     beyond_some r e =
-        let z : Reached = past_item s request q c.kind c.number c.place c.len in
-        let k : z.at ≡ length s + (c.place + c.len - length s) = omega (arith, reaches.ends) in
-        let w = stepped_item s request q ready c.kind c.number 0 c.place c.len fits in
-        let v : y ≡ moved_to z (c.place + c.len - length s) = moved ∙ ap (λ (u : Reached). moved_to u (c.place + c.len - length s)) past in
-        e ∙ ap (reading b request) v ∙ sym (w.same b there tag ∙ reading_moved s b request z (c.place + c.len - length s) k)
+        let k : x.at ≡ length s + (c.place + c.len - length s) = omega (arith, reaches.ends, w.ends) in
+        e ∙ sym (w.same b there tag ∙ reading_moved s b request x (c.place + c.len - length s) k)
 
-    pub cut_small : length s + length b ≤ longest → Small b y
-    unfolding past_item
-    cut_small small =
-        let v : y ≡ moved_to (past_item s request q c.kind c.number c.place c.len) (c.place + c.len - length s) = moved ∙ ap (λ (u : Reached). moved_to u (c.place + c.len - length s)) past in
-        subst (Small b) (sym v) (omega arith, omega (arith, reaches.ends), halted.1, halted.2)
+    pub cut_small : length s + length b ≤ longest → Small b (moved_to x (c.place + c.len - length s))
+    cut_small small = (omega arith, omega (arith, reaches.ends), w.deep)
 
 -- eight octets or less, laid beside those behind them
 module _ (s b : List ℕ) (request : Bool) (q : Reached) (halted : Halted s q) (room : length s - q.at ≤ 8) (few : length b ≤ 7) (area l m : List ℕ) (size : length area ≡ 16)
@@ -85,26 +78,21 @@ module _ (s b : List ℕ) (request : Bool) (q : Reached) (halted : Halted s q) (
       let w : m ≡ splice area 0 (x ++ b) = splice_then area 0 x b (omega arith) f g in
       rw (w, n) (splice_inside area 0 (x ++ b) (omega arith))
 
-  pub tail_length : count ≡ length (take count m)
-  tail_length = omega (arith, ap length tail, left, length-append (drop q.at s) b)
-
-  module _ (y : Reached) (moved : y ≡ moved_to q 0) where
-    pub tail_small : Small (take count m) y
-    tail_small = subst (Small (take count m)) (sym moved) (omega (arith, tail_length), omega arith, halted.1, halted.2)
-
-    pub tail_read : (r : ℕ) → r ≡ reading (take count m) request y → r ≡ reading (s ++ b) request q
-    tail_read r e = e ∙ ap (reading (take count m) request) moved ∙ ap (λ (z : List ℕ). reading z request (moved_to q 0)) tail ∙ sym (reading_rest s b request q halted.0.0)
+  pub tail_read : (r : ℕ) → r ≡ reading (take count m) request (moved_to q 0) → r ≡ reading (s ++ b) request q
+  tail_read r e = e ∙ ap (λ (z : List ℕ). reading z request (moved_to q 0)) tail ∙ sym (reading_rest s b request q halted.0.0)
 
 -- the reading of a value begins
-pub start_read : (s : List ℕ) (request : Bool) (left : ℕ) (numbers : List ℕ) (r : ℕ) → get_or numbers 0 0 ≡ 3 → r ≡ reading s request (record { at = 0; left = left; numbers = numbers; depth = 1; phase = Inside; fault = 0 }) → r ≡ out_fault s request Inside (walk left s 0 (3 ∷ []))
-unfolding reading
-start_read s request left numbers r three e = e ∙ rw three
+abbrev pub start : ℕ → List ℕ → Reached
+start left numbers = record { at = 0; left = left; numbers = numbers; depth = 1; phase = Ok Inside }
 
 -- and goes on
-module _ (s b : List ℕ) (request : Bool) (left : ℕ) (numbers : List ℕ) (three : get_or numbers 0 0 ≡ 3) (q : Reached) (ran : Ran s request (record { at = 0; left = left; numbers = numbers; depth = 1; phase = Inside; fault = 0 }) q) where
-  pub judged_refused : 0 < q.fault → q.fault ≡ out_fault (s ++ b) request Inside (walk left (s ++ b) 0 (3 ∷ []))
+module _ (s b : List ℕ) (request : Bool) (left : ℕ) (numbers : List ℕ) (three : get_or numbers 0 0 ≡ 3) where
+  begun : reading (s ++ b) request (start left numbers) ≡ out_fault (s ++ b) request (Ok Inside) (walk left (s ++ b) 0 (3 ∷ []))
   unfolding reading
-  judged_refused h = start_read (s ++ b) request left numbers q.fault three (sym (ran.same b ∙ rw (ne_eqb q.fault 0 (λ e. omega arith))))
+  begun = rw three
 
-  pub judged_rest : (r : ℕ) → r ≡ reading (s ++ b) request q → r ≡ out_fault (s ++ b) request Inside (walk left (s ++ b) 0 (3 ∷ []))
-  judged_rest r e = start_read (s ++ b) request left numbers r three (e ∙ sym (ran.same b))
+  pub judged_refused : (x : Refusal) → Ran s request (start left numbers) (Err x) → number_of x ≡ out_fault (s ++ b) request (Ok Inside) (walk left (s ++ b) 0 (3 ∷ []))
+  judged_refused x ran = sym (ran.same b) ∙ begun
+
+  pub judged_rest : (q : Reached) → Ran s request (start left numbers) (Ok q) → (r : ℕ) → r ≡ reading (s ++ b) request q → r ≡ out_fault (s ++ b) request (Ok Inside) (walk left (s ++ b) 0 (3 ∷ []))
+  judged_rest q ran r e = e ∙ sym (ran.same b) ∙ begun

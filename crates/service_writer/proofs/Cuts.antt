@@ -11,8 +11,8 @@ use Rattle.octets.specs.Choice.{pick, pick_so, pick_two, by_test, impossible}
 use Rattle.octets.specs.Reading.{oct, be16}
 use Rattle.tags.specs.Types.{longest, least, most}
 use Rattle.tags.specs.Reading.{and_then, number_at, two_at, four_at, length_at, first_rule, first_content, whole_at, sign_bad, signed_at, contents_at, context_at, application_at, head_at}
-use Rattle.tags.specs.declared.Tag.{Tag}
-use Rattle.tags.specs.declared.Tag.TheVariants.{Item, Opening, Closing, Refused}
+use Rattle.tags.specs.Head.{Tag}
+use Rattle.tags.specs.Head.Tag.{Item, Opening, Closing, Refused}
 use Rattle.tags.proofs.Refusals.{first_rule_lem, first_content_lem}
 use Rattle.service_writer.specs.declared.judge.Cut.{Cut}
 use Rattle.service_writer.specs.Judging.{cut_as, cut_length, cut_of}

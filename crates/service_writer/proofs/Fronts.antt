@@ -19,37 +19,36 @@ use Rattle.items.specs.Reading.{Out, more, step, walk, items_of, most_items}
 use Rattle.items.specs.Reading.Out.{good, bad}
 use Rattle.items.specs.Grammar.{encode_all, AllValid, Balanced, record_of, records_from}
 use Rattle.items.proofs.Machine.{more_more, more_none, walk_steps}
-use Rattle.services.specs.Parts.{is, present, wanted, object_rule, number_rule, number_of, any_number, optional_number, after_group, group, last}
+use Rattle.services.specs.Parts.{Answer, is, present, wanted, object_rule, number_rule, number_of, any_number, optional_number, after_group, group, last}
 use Rattle.services.specs.Reading.{last_instance, target, target_parts, layout_for, after_tags, read_service}
 use Rattle.services.specs.Reading as service
 use Rattle.services.specs.Layout.{Pointed, Pointing, shortest, pointed}
 use Rattle.services.specs.Shows.{pointed_of}
-use Rattle.services.specs.declared.Answer.{Answer}
-use Rattle.services.specs.declared.Answer.TheVariants.{Refused}
 use Rattle.services.specs.declared.Service.{Service}
 use Rattle.services.specs.declared.Target.{Target}
 use Rattle.services.proofs.Things.{Here}
 use Rattle.services.proofs.Pointed.{target_of, target_reads}
 use Rattle.service_writer.specs.Layout.{ranked, front_of, behind_of, room_of}
 use Rattle.service_writer.specs.Fault.{refusal_of, read_fault}
-use Rattle.service_writer.specs.declared.judge.Phase.TheVariants.{Inside, Behind, Done, Wrong}
+use Rattle.service_writer.specs.declared.judge.Phase.TheVariants.{Inside, Behind, Done}
+use Rattle.std.specs.Prelude.{Ok, Err}
 use Rattle.service_writer.specs.Judging.{shut_of, rank_of, phase_after, phase_fault, left_fault, out_fault}
 use Rattle.service_writer.proofs.Items.{ranked_parts}
 use Rattle.service_writer.proofs.Phases.{fault_moved}
 
 -- The layout behind the opening, record by record.
 module _ (o : List ℕ) (request : Bool) where
-  left_wrong : (x : ℕ) (rs : List Rec) → left_fault o request (Wrong x) rs ≡ x
+  left_wrong : (x : ℕ) (rs : List Rec) → left_fault o request (Err x) rs ≡ x
   unfolding left_fault phase_fault phase_after
   left_wrong x [] = refl
   left_wrong x (r ∷ rs) = left_wrong x rs
 
-  last_fault : (v : Service) (rs : List Rec) → refusal_of (last v rs) ≡ left_fault o request Done rs
+  last_fault : (v : Service) (rs : List Rec) → refusal_of (last v rs) ≡ left_fault o request (Ok Done) rs
   unfolding last refusal_of left_fault phase_fault phase_after
   last_fault v [] = refl
   last_fault v (r ∷ rs) = sym (left_wrong 42 rs)
 
-  rank_fault : (f : Bool → ℕ → Service) (rs : List Rec) → refusal_of (optional_number o 4 1 16 (λ here v. last (f here v)) rs) ≡ left_fault o request Behind rs
+  rank_fault : (f : Bool → ℕ → Service) (rs : List Rec) → refusal_of (optional_number o 4 1 16 (λ here v. last (f here v)) rs) ≡ left_fault o request (Ok Behind) rs
   unfolding optional_number present wanted refusal_of left_fault phase_fault phase_after last rank_of
   rank_fault f [] = refl
   rank_fault f (r ∷ rs) =
@@ -57,7 +56,7 @@ module _ (o : List ℕ) (request : Bool) where
       (λ e. rw e (by_test (ltb 0 (number_rule o 1 16 r)) (λ d. rw d (sym (left_wrong (number_rule o 1 16 r) rs))) (λ d. rw d (last_fault (f true (number_of o r)) rs))))
       (λ e. rw e (sym (left_wrong 42 rs)))
 
-  after_fault : (f : ℕ → List Rec → Answer) → ((end : ℕ) (rs : List Rec) → refusal_of (f end rs) ≡ left_fault o request (shut_of request) rs) → (rs : List Rec) → refusal_of (after_group f rs) ≡ left_fault o request Inside rs
+  after_fault : (f : ℕ → List Rec → Answer) → ((end : ℕ) (rs : List Rec) → refusal_of (f end rs) ≡ left_fault o request (shut_of request) rs) → (rs : List Rec) → refusal_of (after_group f rs) ≡ left_fault o request (Ok Inside) rs
   unfolding after_group refusal_of left_fault phase_fault phase_after
   after_fault f g [] = refl
   after_fault f g (r ∷ rs) =
@@ -103,10 +102,10 @@ parts_append : (o : List ℕ) (next : Target → List Rec → Answer) (a b : Rec
 unfolding target_parts wanted
 parts_append o next a b xs rs e =
     ap (λ (z : Answer).
-    pick (non (is 1 0 a)) (Refused 40)
-    (pick (ltb 0 (object_rule a)) (Refused (object_rule a))
-    (pick (non (is 1 1 b)) (Refused 40)
-    (pick (ltb 0 (number_rule o 0 any_number b)) (Refused (number_rule o 0 any_number b)) z))))
+    pick (non (is 1 0 a)) (Err 40)
+    (pick (ltb 0 (object_rule a)) (Err (object_rule a))
+    (pick (non (is 1 1 b)) (Err 40)
+    (pick (ltb 0 (number_rule o 0 any_number b)) (Err (number_rule o 0 any_number b)) z))))
     (option_append o 2 0 any_number (λ indexed index. next (target (number_of o a) (number_of o b) indexed index)) xs rs e)
 
 -- The target: it is read whatever follows, where no index that is absent comes next.
@@ -147,7 +146,7 @@ module _ (p : Pointed) (ok : Pointing p) where
         target_append o next rs e ∙ (rw append-nil at r.0)
 
 -- What the tags and then the layout say, of records in front and those that are left.
-tags_fault : (o : List ℕ) (request : Bool) (f : List Rec → Answer) (front : List Rec) (r : Rec) → ((rs : List Rec) → refusal_of (f (front ++ (r ∷ rs))) ≡ left_fault o request Inside rs) → (out : Out) → refusal_of (after_tags f (more front (more (r ∷ []) out))) ≡ out_fault o request Inside out
+tags_fault : (o : List ℕ) (request : Bool) (f : List Rec → Answer) (front : List Rec) (r : Rec) → ((rs : List Rec) → refusal_of (f (front ++ (r ∷ rs))) ≡ left_fault o request (Ok Inside) rs) → (out : Out) → refusal_of (after_tags f (more front (more (r ∷ []) out))) ≡ out_fault o request (Ok Inside) out
 unfolding more out_fault refusal_of
 tags_fault o request f front r h (good rs end) = h rs
 tags_fault o request f front r h (bad x) = refl
@@ -183,13 +182,13 @@ module _ (p : Pointed) (ok : Pointing p) (rest : List ℕ) where
       ap (λ (j : ℕ). walk j all 0 []) e ∙ walk_contexts all (suc left) 0 (pointed p) (pointed_contexts p ok) (pointed_valid p ok) (omega arith) stands
       ∙ ap (more (records_from 0 0 (pointed p))) (ap (λ (at : ℕ). walk (suc left) all at []) z ∙ open_walk left)
 
-  layout_front : (request : Bool) (place : ℕ) (rs : List Rec) → refusal_of (layout_for (pick request 0 3) (pick request 15 12) all (records_from 0 0 (pointed p) ++ (rec 2 3 0 0 place 0 ∷ rs))) ≡ left_fault all request Inside rs
+  layout_front : (request : Bool) (place : ℕ) (rs : List Rec) → refusal_of (layout_for (pick request 0 3) (pick request 15 12) all (records_from 0 0 (pointed p) ++ (rec 2 3 0 0 place 0 ∷ rs))) ≡ left_fault all request (Ok Inside) rs
   unfolding layout_for service.read_property_ack service.write_property group present shut_of
   layout_front true place rs = ap refusal_of (target_front p ok all stands _ (rec 2 3 0 0 place 0 ∷ rs) refl) ∙ after_fault all true _ (λ end ys. rank_fault all true _ ys) rs
   layout_front false place rs = ap refusal_of (target_front p ok all stands _ (rec 2 3 0 0 place 0 ∷ rs) refl) ∙ after_fault all false _ (λ end ys. last_fault all false _ ys) rs
 
   -- "the number that reading their output would give"
-  pub front_fault_lem : (request : Bool) (left : ℕ) → most_items ≡ length (pointed p) + suc left → length all ≤ longest → read_fault (pick request 0 3) (pick request 15 12) all ≡ out_fault rest request Inside (walk left rest 0 (3 ∷ []))
+  pub front_fault_lem : (request : Bool) (left : ℕ) → most_items ≡ length (pointed p) + suc left → length all ≤ longest → read_fault (pick request 0 3) (pick request 15 12) all ≡ out_fault rest request (Ok Inside) (walk left rest 0 (3 ∷ []))
   unfolding read_service items_of
   front_fault_lem request left e small =
       let a : List ℕ = target_octets ++ (62 ∷ []) in
@@ -197,9 +196,9 @@ module _ (p : Pointed) (ok : Pointing p) (rest : List ℕ) where
       let l : length target_octets + 1 ≡ length a + 0 = omega (arith, length-append target_octets (62 ∷ [])) in
       rw (le-ltb longest (length all) small, front_walk left e)
       (tags_fault all request _ (records_from 0 0 (pointed p)) _ (layout_front request _) (walk left all (length target_octets + 1) (3 ∷ []))
-      ∙ ap (λ (at : ℕ). out_fault all request Inside (walk left all at (3 ∷ []))) l
-      ∙ ap (λ (o : List ℕ). out_fault o request Inside (walk left o (length a + 0) (3 ∷ []))) same
-      ∙ fault_moved a rest request Inside left 0 (3 ∷ []))
+      ∙ ap (λ (at : ℕ). out_fault all request (Ok Inside) (walk left all at (3 ∷ []))) l
+      ∙ ap (λ (o : List ℕ). out_fault o request (Ok Inside) (walk left o (length a + 0) (3 ∷ []))) same
+      ∙ fault_moved a rest request (Ok Inside) left 0 (3 ∷ []))
 
 -- the target as it is read: "Fields of absent optional parts are not looked at, and are read as 0."
 abbrev point : Target → Pointed
@@ -219,7 +218,7 @@ module _ (t : Target) (narrow : (t.object ≤ 1023) × (t.instance ≤ last_inst
 
   -- The number that reading a target, a value and an optional priority gives is that of the value with what stands behind it.
   pub ranked_fault_lem : (request : Bool) (value : List ℕ) (here : Bool) (priority : ℕ) → length (ranked t value here priority) ≤ longest
-      → read_fault (pick request 0 3) (pick request 15 12) (ranked t value here priority) ≡ out_fault (value ++ behind_of here priority) request Inside (walk (room_of t) (value ++ behind_of here priority) 0 (3 ∷ []))
+      → read_fault (pick request 0 3) (pick request 15 12) (ranked t value here priority) ≡ out_fault (value ++ behind_of here priority) request (Ok Inside) (walk (room_of t) (value ++ behind_of here priority) 0 (3 ∷ []))
   unfolding front_of
   ranked_fault_lem request value here priority small =
       let rest : List ℕ = value ++ behind_of here priority in

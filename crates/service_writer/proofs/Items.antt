@@ -1,15 +1,15 @@
--- The octets of items with numbers, and octets laid one after the other.
+-- The octets of items with numbers, and what is held once they are laid one after the other.
 use Prim.Native.Nat.{ℕ, zero, suc, ◌+◌, ◌-◌, ◌*◌, ◌≤◌, ◌<◌}
 use native.Mathlib.Omega.{arith}
 use mathlib.Core.Path.{◌≡◌, refl, sym, ap, subst, ◌∙◌}
 use mathlib.Core.List.{List, [], ◌∷◌, ◌++◌, append-nil, append_assoc}
 use mathlib.Core.Bool.{Bool, true, false}
-use lib.ListN.{length, take, drop, length-append, drop_of_length-le}
-use lib.Seq.{take-length}
+use lib.ListN.{length, take, drop, length-append}
+use lib.Seq.{take-length, take-add}
 use lib.Dec.{ltb}
 use borrow.Author.Tests.{lt-ltb, ltb-false}
-use Rattle.octets.specs.Choice.{pick_not, by_test, impossible}
-use Rattle.octets.specs.Splice.{splice, splice_nil, splice_front, splice_then, splice_length, splice_inside}
+use Rattle.octets.specs.Choice.{pick_not, impossible}
+use Rattle.octets.specs.Splice.{splice, splice_before, splice_inside}
 use Rattle.octets.specs.Numbers.{digits, width_of, length_digits, width_range}
 use Rattle.tags.specs.Layout.{encode, high_bits, number_octets, low_bits, length_octets}
 use Rattle.tags.specs.Layout.Thing.{application, context}
@@ -23,7 +23,8 @@ use Rattle.services.specs.declared.WhoIs.{WhoIs}
 use Rattle.services.specs.declared.IAm.{IAm}
 use Rattle.services.specs.declared.Fault.{Fault}
 use Rattle.services.specs.declared.Target.{Target}
-use Rattle.service_writer.specs.Layout.{number_item, grouped, ranked, front_of, behind_of, Put}
+use Rattle.service_writer.specs.Layout.{number_item, grouped, ranked, front_of, behind_of, laid, Holds, Adds}
+use Rattle.service_writer.specs.declared.work.Work.{Work}
 use Rattle.service_writer.specs.Fault.{wide_target}
 
 -- the last octets of four
@@ -39,14 +40,12 @@ last_digits v (suc (suc (suc (suc (suc w))))) a b = absurd (omega arith)
 shortest_length : (v : ℕ) → length (shortest v) ≡ width_of v
 shortest_length v = length_digits (width_of v) v
 
--- the shortest form out of four octets that were laid
-pub tail_four : (four five : List ℕ) (v w : ℕ) → length four ≡ 4 → five ≡ splice four 0 (digits 4 v) → w ≡ width_of v → take (4 - (4 - w)) (drop (4 - w) five) ≡ shortest v
-tail_four four five v w l e k =
-    let z : drop 4 four ≡ [] = drop_of_length-le four {i = 4} (omega arith) in
+-- the shortest form out of the four octets of a number
+shortest_end : (v w : ℕ) (four : List ℕ) → four ≡ digits 4 v → w ≡ width_of v → take (4 - (4 - w)) (drop (4 - w) four) ≡ shortest v
+shortest_end v w four e k =
     let r = width_range v in
-    let s : splice four 0 (digits 4 v) ≡ digits 4 v = splice_front four (digits 4 v) ∙ rw (length_digits 4 v, z) (append-nil (digits 4 v)) in
     let n : 4 - (4 - width_of v) ≡ length (shortest v) = omega (arith, shortest_length v) in
-    rw (e, s, k, last_digits v (width_of v) r.0 r.1, n) (take-length (shortest v))
+    rw (e, k, last_digits v (width_of v) r.0 r.1, n) (take-length (shortest v))
 
 -- items whose contents are at most four octets
 module _ (n : ℕ) (xs : List ℕ) (small : length xs ≤ 4) where
@@ -74,15 +73,19 @@ unfolding number_item
 item_length_lem head v = let l = shortest_length v in (omega arith, omega (arith, width_range v))
 
 -- one after the other
-pub put_then : {l m later : List ℕ} {at x y : ℕ} (a b : List ℕ) → at + length a + length b ≤ length l → Put l at a x m → Put m x b y later → Put l at (a ++ b) y later
-put_then {l} {m} {later} {at} {x} {y} a b h p q =
-    record { next = rw (length-append a b) (omega (arith, p.next, q.next)); laid = splice_then l at a b h p.laid (subst (λ (z : ℕ). later ≡ splice m z b) p.next q.laid) }
+adds_then : {w v x : Work} {a b : List ℕ} → Adds w a v → Adds v b x → Adds w (a ++ b) x
+adds_then {w} {v} {x} {a} {b} p q = record { len = rw (length-append a b) (omega (arith, p.len, q.len)); laid = q.laid ∙ rw p.laid (append_assoc (laid w) a b) }
 
-pub put_none : (l : List ℕ) (at : ℕ) → Put l at [] at l
-put_none l at = record { next = omega arith; laid = sym (splice_nil l at) }
+holds_then : {w v : Work} {a b : List ℕ} → Holds w a → Adds w b v → Holds v (a ++ b)
+holds_then {w} {v} {a} {b} p q = record { len = rw (length-append a b) (omega (arith, p.len, q.len)); laid = q.laid ∙ rw p.laid refl }
 
-pub put_as : {l later : List ℕ} {at r : ℕ} {a b : List ℕ} → a ≡ b → Put l at a r later → Put l at b r later
-put_as e p = rw (← e) p
+holds_as : {w : Work} {a b : List ℕ} → a ≡ b → Holds w a → Holds w b
+holds_as e p = rw (← e) p
+
+-- more octets
+pub added : (w v : Work) (o : List ℕ) → length w.octets ≡ 24 → w.len + length o ≤ 24 → v.octets ≡ splice w.octets w.len o → v.len ≡ w.len + length o → Adds w o v
+added w v o size room e d =
+    record { len = d; laid = rw (d, e, take-add w.len (length o) (splice w.octets w.len o), splice_before w.octets w.len o w.len (omega arith) (omega arith), splice_inside w.octets w.len o (omega arith)) }
 
 -- what a target that is not too wide keeps
 pub not_wide : (t : Target) → wide_target t ≡ false → (t.object ≤ 1023) × (t.instance ≤ last_instance)
@@ -91,23 +94,16 @@ not_wide t e =
     let w = pick_not (ltb 1023 t.object) true (ltb last_instance t.instance) false (λ d. impossible (cc)) e in
     (ltb-false 1023 t.object w.0, ltb-false last_instance t.instance w.1)
 
--- the length of the area stays
-pub put_length : {l later : List ℕ} {at r : ℕ} {o : List ℕ} → at + length o ≤ length l → Put l at o r later → length later ≡ length l
-put_length {l} {later} {at} {r} {o} h p = rw p.laid (splice_length l at o h)
-
--- a number's item
-pub item_put : (area m later : List ℕ) (at head v w : ℕ) → at + 5 ≤ length area → w ≡ width_of v → m ≡ splice area at ((head + w) ∷ []) → later ≡ splice m (at + 1) (shortest v) → Put area at (number_item head v) (at + 1 + w) later
+-- a number's item, and four octets behind their tag octet
+pub item_added : (w v x : Work) (head n u : ℕ) (four : List ℕ) → u ≡ width_of n → four ≡ digits 4 n → Adds w ((head + u) ∷ []) v → Adds v (take (4 - (4 - u)) (drop (4 - u) four)) x → Adds w (number_item head n) x
 unfolding number_item
-item_put area m later at head v w h k e d =
-    let l = shortest_length v in
-    record { next = omega arith; laid = splice_then area at ((head + width_of v) ∷ []) (shortest v) (omega (arith, width_range v)) (rw k at e) d }
+item_added w v x head n u four k d p q = adds_then (rw k at p) (subst (λ (o : List ℕ). Adds v o x) (shortest_end n u four d k) q)
 
--- four octets behind their tag octet
-pub object_put : (area m later : List ℕ) (tag v : ℕ) → 5 ≤ length area → m ≡ splice area 0 (tag ∷ []) → later ≡ splice m 1 (digits 4 v) → later ≡ splice area 0 (tag ∷ digits 4 v)
-object_put area m later tag v h e d = splice_then area 0 (tag ∷ []) (digits 4 v) (rw (length_digits 4 v) (omega arith)) e d
+pub object_length : (tag n : ℕ) → length (tag ∷ digits 4 n) ≡ 5
+object_length tag n = omega (arith, length_digits 4 n)
 
-pub object_next : {area later : List ℕ} (tag v : ℕ) → later ≡ splice area 0 (tag ∷ digits 4 v) → Put area 0 (tag ∷ digits 4 v) 5 later
-object_next tag v e = record { next = omega (arith, length_digits 4 v); laid = e }
+pub object_added : (w v x : Work) (tag n : ℕ) (four : List ℕ) → four ≡ digits 4 n → Adds w (tag ∷ []) v → Adds v four x → Adds w (tag ∷ digits 4 n) x
+object_added w v x tag n four d p q = adds_then p (rw d at q)
 
 -- an optional number
 pub optional_one : (here : Bool) (n v : ℕ) → here ≡ true → n < 15 → encode_all (optional here n v) ≡ number_item (n * 16 + 8) v
@@ -138,20 +134,17 @@ target_length t =
     let l = length_digits 4 (word t) in
     rw (target_octets_lem t) (simp length-append (omega (arith, item_length_lem 24 t.property, optional_length t.indexed 2 t.index (omega arith))))
 
-pub target_put : (t : Target) (area l m later : List ℕ) (a r : ℕ) → 15 ≤ length area → Put area 0 (12 ∷ digits 4 (word t)) 5 l → Put l 5 (number_item 24 t.property) a m → Put m a (encode_all (optional t.indexed 2 t.index)) r later
-    → Put area 0 (encode_all (pointed (pointed_of t))) r later
-target_put t area l m later a r h p q w =
-    let d = length_digits 4 (word t) in
-    let i = item_length_lem 24 t.property in
-    let x = optional_length t.indexed 2 t.index (omega arith) in
-    let k : length l ≡ length area = put_length (omega arith) p in
-    put_as (sym (target_octets_lem t)) (put_then (12 ∷ digits 4 (word t)) (number_item 24 t.property ++ encode_all (optional t.indexed 2 t.index)) (rw length-append (omega arith)) p
-    (put_then (number_item 24 t.property) (encode_all (optional t.indexed 2 t.index)) (omega arith) q w))
+pub target_one : (t : Target) (w v x y : Work) → Holds w [] → Adds w (12 ∷ digits 4 (word t)) v → Adds v (number_item 24 t.property) x → t.indexed ≡ true → Adds x (number_item 40 t.index) y → Holds y (encode_all (pointed (pointed_of t)))
+target_one t w v x y h p q e r =
+    holds_as (ap (λ (o : List ℕ). (12 ∷ digits 4 (word t)) ++ (number_item 24 t.property ++ o)) (sym (optional_one t.indexed 2 t.index e (omega arith))) ∙ sym (target_octets_lem t))
+    (holds_then h (adds_then p (adds_then q r)))
+
+pub target_none : (t : Target) (w v x : Work) → Holds w [] → Adds w (12 ∷ digits 4 (word t)) v → Adds v (number_item 24 t.property) x → t.indexed ≡ false → Holds x (encode_all (pointed (pointed_of t)))
+target_none t w v x h p q e =
+    holds_as (ap (λ (o : List ℕ). (12 ∷ digits 4 (word t)) ++ o) (sym (append-nil (number_item 24 t.property)) ∙ ap (λ (o : List ℕ). number_item 24 t.property ++ o) (sym (optional_none t.indexed 2 t.index e))) ∙ sym (target_octets_lem t))
+    (holds_then h (adds_then p q))
 
 -- two items, and the other layouts
-pub pair_put : (x y v w : ℕ) (area l later : List ℕ) (a r : ℕ) → 10 ≤ length area → Put area 0 (number_item x v) a l → Put l a (number_item y w) r later → Put area 0 (number_item x v ++ number_item y w) r later
-pair_put x y v w area l later a r h p q = put_then (number_item x v) (number_item y w) (omega (arith, item_length_lem x v, item_length_lem y w)) p q
-
 pub limits_octets : (w : WhoIs) → w.limited ≡ true → message (message_of (Service.WhoIs w) []) ≡ number_item 8 w.low ++ number_item 24 w.high
 unfolding message_of things_of_message encode_all
 limits_octets w e = rw (e, context_number_lem 0 w.low (omega arith), context_number_lem 1 w.high (omega arith), append-nil)
@@ -171,50 +164,36 @@ device_octets i =
     let e : encode (application 12 (digits 4 (33554432 + i.instance))) ≡ 196 ∷ digits 4 (33554432 + i.instance) = application_octets 12 (digits 4 (33554432 + i.instance)) (omega arith) ∙ rw l in
     rw (e, application_number_lem 2 i.longest, application_number_lem 9 i.segmentation, application_number_lem 2 i.vendor, append-nil)
 
-pub device_put : (i : IAm) (area l m n later : List ℕ) (a b r : ℕ) → 20 ≤ length area → Put area 0 (196 ∷ digits 4 (33554432 + i.instance)) 5 l → Put l 5 (number_item 32 i.longest) a m → Put m a (number_item 144 i.segmentation) b n
-    → Put n b (number_item 32 i.vendor) r later → Put area 0 (message (message_of (Service.IAm i) [])) r later
-device_put i area l m n later a b r h p q w z =
-    let d = length_digits 4 (33554432 + i.instance) in
-    let x = item_length_lem 32 i.longest in
-    let y = item_length_lem 144 i.segmentation in
-    let u = item_length_lem 32 i.vendor in
-    let k : length l ≡ length area = put_length (omega arith) p in
-    let j : length m ≡ length l = put_length (omega arith) q in
-    put_as (sym (device_octets i)) (put_then (196 ∷ digits 4 (33554432 + i.instance)) (number_item 32 i.longest ++ (number_item 144 i.segmentation ++ number_item 32 i.vendor)) (simp length-append (omega arith)) p
-    (put_then (number_item 32 i.longest) (number_item 144 i.segmentation ++ number_item 32 i.vendor) (simp length-append (omega arith)) q
-    (put_then (number_item 144 i.segmentation) (number_item 32 i.vendor) (omega (arith, q.next)) w z)))
+pub limits_held : (l : WhoIs) (w v x : Work) → Holds w [] → l.limited ≡ true → Adds w (number_item 8 l.low) v → Adds v (number_item 24 l.high) x → Holds x (message (message_of (Service.WhoIs l) []))
+limits_held l w v x h e p q = holds_as (sym (limits_octets l e)) (holds_then h (adds_then p q))
 
--- no layout without a value takes more than 20 octets
-pub limits_length : (w : WhoIs) → length (message (message_of (Service.WhoIs w) [])) ≤ 20
-limits_length w =
-    by_test w.limited
-    (λ e. rw (limits_octets w e) (simp length-append (omega (arith, item_length_lem 8 w.low, item_length_lem 24 w.high))))
-    (λ e. rw (limits_none w e) (omega arith))
+pub limits_not : (l : WhoIs) (w : Work) → Holds w [] → l.limited ≡ false → Holds w (message (message_of (Service.WhoIs l) []))
+limits_not l w h e = holds_as (sym (limits_none l e)) h
 
-pub error_length : (f : Fault) → length (message (message_of (Service.Error f) [])) ≤ 20
-error_length f = rw (error_octets f) (simp length-append (omega (arith, item_length_lem 144 f.class, item_length_lem 144 f.code)))
+pub error_held : (f : Fault) (w v x : Work) → Holds w [] → Adds w (number_item 144 f.class) v → Adds v (number_item 144 f.code) x → Holds x (message (message_of (Service.Error f) []))
+error_held f w v x h p q = holds_as (sym (error_octets f)) (holds_then h (adds_then p q))
 
-pub device_length : (i : IAm) → length (message (message_of (Service.IAm i) [])) ≤ 20
-device_length i =
-    let d = length_digits 4 (33554432 + i.instance) in
-    rw (device_octets i) (simp length-append (omega (arith, item_length_lem 32 i.longest, item_length_lem 144 i.segmentation, item_length_lem 32 i.vendor)))
+pub device_held : (i : IAm) (w v x y z : Work) → Holds w [] → Adds w (196 ∷ digits 4 (33554432 + i.instance)) v → Adds v (number_item 32 i.longest) x → Adds x (number_item 144 i.segmentation) y → Adds y (number_item 32 i.vendor) z
+    → Holds z (message (message_of (Service.IAm i) []))
+device_held i w v x y z h p q r s = holds_as (sym (device_octets i)) (holds_then h (adds_then p (adds_then q (adds_then r s))))
 
 -- before a value, and behind it
-pub front_length : (t : Target) → length (front_of t) ≤ 16
+pub front_held : (t : Target) (w v : Work) → Holds w (encode_all (pointed (pointed_of t))) → Adds w (62 ∷ []) v → Holds v (front_of t)
 unfolding front_of encode high_bits number_octets
-front_length t = rw length-append (omega (arith, target_length t))
-
-pub front_put : (t : Target) (area l later : List ℕ) (a : ℕ) → 24 ≤ length area → Put area 0 (encode_all (pointed (pointed_of t))) a l → later ≡ splice l a (62 ∷ []) → Put area 0 (front_of t) (a + 1) later
-unfolding front_of encode high_bits number_octets
-front_put t area l later a h p e = put_then (encode_all (pointed (pointed_of t))) (62 ∷ []) (omega (arith, target_length t)) p (record { next = omega arith; laid = e })
+front_held t w v h p = holds_then h p
 
 pub behind_length : (here : Bool) (priority : ℕ) → length (behind_of here priority) ≤ 6
 unfolding behind_of encode high_bits number_octets
 behind_length here priority = omega (arith, optional_length here 4 priority (omega arith))
 
-pub behind_put : (here : Bool) (priority : ℕ) (area l later : List ℕ) (r : ℕ) → 8 ≤ length area → l ≡ splice area 0 (63 ∷ []) → Put l 1 (encode_all (optional here 4 priority)) r later → Put area 0 (behind_of here priority) r later
-unfolding behind_of encode high_bits number_octets
-behind_put here priority area l later r h e p = put_then (63 ∷ []) (encode_all (optional here 4 priority)) (omega (arith, optional_length here 4 priority (omega arith))) (record { next = omega arith; laid = e }) p
+module _ (here : Bool) (priority : ℕ) (w v : Work) (h : Holds w []) (p : Adds w (63 ∷ []) v) where
+  pub behind_one : (x : Work) → here ≡ true → Adds v (number_item 72 priority) x → Holds x (behind_of here priority)
+  unfolding behind_of encode high_bits number_octets
+  behind_one x e q = holds_as (ap (λ (o : List ℕ). 63 ∷ o) (sym (optional_one here 4 priority e (omega arith)))) (holds_then h (adds_then p q))
+
+  pub behind_none : here ≡ false → Holds v (behind_of here priority)
+  unfolding behind_of encode high_bits number_octets
+  behind_none e = holds_as (ap (λ (o : List ℕ). 63 ∷ o) (sym (optional_none here 4 priority e))) (holds_then h p)
 
 -- the three together
 pub ranked_parts : (t : Target) (value : List ℕ) (here : Bool) (priority : ℕ) → ranked t value here priority ≡ front_of t ++ (value ++ behind_of here priority)
@@ -223,15 +202,3 @@ ranked_parts t value here priority = simp append_assoc
 
 pub ranked_length : (t : Target) (value : List ℕ) (here : Bool) (priority : ℕ) → length (ranked t value here priority) ≡ length (front_of t) + length value + length (behind_of here priority)
 ranked_length t value here priority = rw (ranked_parts t value here priority) (simp length-append (omega arith))
-
--- what was laid at the front
-pub put_cut : (area o later : List ℕ) (n : ℕ) → length o ≤ length area → Put area 0 o n later → take n later ≡ o
-put_cut area o later n h p =
-    let e : n ≡ length o = omega (arith, p.next) in
-    rw (p.laid, e) (splice_inside area 0 o (omega arith))
-
-pub put_fits : (area o later : List ℕ) (n : ℕ) → Put area 0 o n later → length o ≤ length area → n ≤ length later
-put_fits area o later n p h = omega (arith, p.next, put_length (omega arith) p)
-
-pub put_prefix : (area o later : List ℕ) (n : ℕ) → Put area 0 o n later → length o ≤ length area → n ≡ length (take n later)
-put_prefix area o later n p h = omega (arith, p.next, ap length (put_cut area o later n h p))

@@ -1,4 +1,5 @@
 -- "parameters that were read write back to the same octets", and what was written reads back.
+use Rattle.std.specs.Prelude.{Ok}
 use Prim.Native.Nat.{ℕ}
 use mathlib.Core.Path.{◌≡◌, refl, sym, subst, ◌∙◌}
 use mathlib.Core.Logic.{◌⊎◌, inl, inr}
@@ -11,7 +12,6 @@ use Rattle.items.specs.Grammar.{encode_all}
 use Rattle.services.specs.Reading.{last_instance, layout_for, read_service}
 use Rattle.services.specs.Layout.{Pointing, valued, things_of_message, encode, Ranges}
 use Rattle.services.specs.Shows.{For, pointed_of, message_of, Shows, ValidFor}
-use Rattle.services.specs.declared.Answer.TheVariants.{Good}
 use Rattle.services.specs.declared.Service.{Service}
 use Rattle.services.specs.declared.Service.TheVariants.{ReadProperty, ReadPropertyAck, WriteProperty, WhoIs, IAm, Error}
 use Rattle.services.specs.declared.Target.{Target}
@@ -49,7 +49,7 @@ fits (WhoIs w) ts r = refl
 fits (IAm i) ts r = le-ltb last_instance i.instance r.0
 fits (Error f) ts r = refl
 
-fault_none : (v : Service) (value : List ℕ) (w : Service) → too_wide v ≡ false → read_service (kind_of v) (choice_of v) (octets_of v value) ≡ Good w → fault_of v value ≡ 0
+fault_none : (v : Service) (value : List ℕ) (w : Service) → too_wide v ≡ false → read_service (kind_of v) (choice_of v) (octets_of v value) ≡ Ok w → fault_of v value ≡ 0
 unfolding fault_of refusal_of
 fault_none v value w e d = rw (e, d)
 
@@ -69,7 +69,7 @@ error_same : (o : List ℕ) → read_service 5 15 o ≡ read_service 5 12 o
 unfolding read_service layout_for
 error_same o = refl
 
-own_choice : (kind choice : ℕ) (o : List ℕ) (v : Service) (ts : List Thing) → For kind choice (message_of v ts) → read_service kind choice o ≡ Good v → read_service (kind_of v) (choice_of v) o ≡ Good v
+own_choice : (kind choice : ℕ) (o : List ℕ) (v : Service) (ts : List Thing) → For kind choice (message_of v ts) → read_service kind choice o ≡ Ok v → read_service (kind_of v) (choice_of v) o ≡ Ok v
 unfolding message_of
 own_choice kind choice o (ReadProperty t) ts f e = rw (f.0, f.1) at e
 own_choice kind choice o (ReadPropertyAck a) ts f e = rw (f.0, f.1) at e
@@ -78,7 +78,7 @@ own_choice kind choice o (WhoIs w) ts f e = rw (f.0, f.1) at e
 own_choice kind choice o (IAm i) ts f e = rw (f.0, f.1) at e
 own_choice kind choice o (Error x) ts f e = go f.1
   where
-    go : (choice ≡ 12) ⊎ (choice ≡ 15) → read_service 5 12 o ≡ Good (Error x)
+    go : (choice ≡ 12) ⊎ (choice ≡ 15) → read_service 5 12 o ≡ Ok (Error x)
     go (inl c) = rw (f.0, c) at e
     go (inr c) = sym (error_same o) ∙ (rw (f.0, c) at e)
 
@@ -97,9 +97,9 @@ pub record Same (o : List ℕ) (v : Service) : Type 0 where
   pub fine : fault_of v (value_in o v) ≡ 0
   pub octets : octets_of v (value_in o v) ≡ o
 
-pub writes_back : (kind choice : ℕ) (o : List ℕ) → Octets o → (v : Service) → read_service kind choice o ≡ Good v → Same o v
+pub writes_back : (kind choice : ℕ) (o : List ℕ) → Octets o → (v : Service) → read_service kind choice o ≡ Ok v → Same o v
 writes_back kind choice o os v e =
     let a = accepted kind choice o os v e in
     let d : octets_of v (value_in o v) ≡ o = value_laid o v a.value a.stands ∙ octets_are v a.value ∙ sym a.octets in
-    let r : read_service (kind_of v) (choice_of v) (octets_of v (value_in o v)) ≡ Good v = subst (λ (x : List ℕ). read_service (kind_of v) (choice_of v) x ≡ Good v) (sym d) (own_choice kind choice o v a.value a.valid.layout e) in
+    let r : read_service (kind_of v) (choice_of v) (octets_of v (value_in o v)) ≡ Ok v = subst (λ (x : List ℕ). read_service (kind_of v) (choice_of v) x ≡ Ok v) (sym d) (own_choice kind choice o v a.value a.valid.layout e) in
     record { fine = fault_none v (value_in o v) v (fits v a.value a.valid.valid.ranges) r; octets = d }

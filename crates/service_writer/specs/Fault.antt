@@ -1,9 +1,8 @@
 -- The number that a service writer gives, 0 for none: "41 for a field too wide for its layout, else the number that reading their output would give".
-use Rattle.std.specs.Prelude.{ℕ, Bool, true, false, List, ltb}
+use Rattle.std.specs.Prelude.{ℕ, Bool, true, false, List, ltb, Ok, Err}
 use Rattle.octets.specs.Choice.{pick}
+use Rattle.services.specs.Parts.{Answer}
 use Rattle.services.specs.Reading.{last_instance, read_service}
-use Rattle.services.specs.declared.Answer.{Answer}
-use Rattle.services.specs.declared.Answer.TheVariants.{Good, Refused}
 use Rattle.services.specs.declared.Service.{Service}
 use Rattle.services.specs.declared.Service.TheVariants.{ReadProperty, ReadPropertyAck, WriteProperty, WhoIs, IAm, Error}
 use Rattle.services.specs.declared.Target.{Target}
@@ -23,8 +22,8 @@ too_wide (Error f) = false
 
 -- the number of a refusal, 0 for none
 unfoldable pub refusal_of : Answer → ℕ
-refusal_of (Good v) = 0
-refusal_of (Refused x) = x
+refusal_of (Ok v) = 0
+refusal_of (Err x) = x
 
 -- the number that reading the octets gives, 0 for none
 abbrev pub read_fault : ℕ → ℕ → List ℕ → ℕ

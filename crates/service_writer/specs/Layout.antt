@@ -1,7 +1,6 @@
 -- The octets of a service with a value's octets: "Service writers take a value as octets".
-use Rattle.std.specs.Prelude.{ℕ, ◌+◌, ◌≡◌, Bool, List, [], ◌∷◌, ◌++◌, length}
+use Rattle.std.specs.Prelude.{ℕ, ◌+◌, ◌≡◌, Bool, List, [], ◌∷◌, ◌++◌, length, take}
 use Rattle.octets.specs.Choice.{pick}
-use Rattle.octets.specs.Splice.{splice}
 use Rattle.octets.specs.Numbers.{width_of}
 use Rattle.tags.specs.Layout.Thing.{opening, closing}
 use Rattle.tags.specs.Layout as tag
@@ -11,6 +10,7 @@ use Rattle.services.specs.Shows.{pointed_of, message_of, value_octets}
 use Rattle.services.specs.declared.Service.{Service}
 use Rattle.services.specs.declared.Service.TheVariants.{ReadProperty, ReadPropertyAck, WriteProperty, WhoIs, IAm, Error}
 use Rattle.services.specs.declared.Target.{Target}
+use Rattle.service_writer.specs.declared.work.Work.{Work}
 
 -- the kind of PDU and the choice whose parameters a service is; Error has one layout for 12 and 15
 abbrev pub kind_of : Service → ℕ
@@ -70,7 +70,16 @@ value_in o (Error f) = []
 unfoldable pub number_item : ℕ → ℕ → List ℕ
 number_item head v = (head + width_of v) ∷ shortest v
 
--- octets were laid at a place, and what follows them begins at r
-pub record Put (area : List ℕ) (at : ℕ) (o : List ℕ) (r : ℕ) (later : List ℕ) : Type 0 where
-  pub next : r ≡ at + length o
-  pub laid : later ≡ splice area at o
+-- what is laid in a work
+abbrev pub laid : Work → List ℕ
+laid w = take w.len w.octets
+
+-- these octets are, and no more
+pub record Holds (w : Work) (o : List ℕ) : Type 0 where
+  pub len : w.len ≡ length o
+  pub laid : laid w ≡ o
+
+-- these were laid behind what was there
+pub record Adds (w : Work) (o : List ℕ) (v : Work) : Type 0 where
+  pub len : v.len ≡ w.len + length o
+  pub laid : laid v ≡ laid w ++ o

@@ -1,4 +1,5 @@
 -- The octets that are read as a service are exactly those that its messages are written as.
+use Rattle.std.specs.Prelude.{Ok}
 use Prim.Native.Nat.{ℕ, ◌+◌}
 use native.Mathlib.Omega.{arith}
 use mathlib.Core.Path.{◌≡◌, refl, sym, ap, subst, ◌∙◌}
@@ -14,12 +15,11 @@ use Rattle.items.specs.Reading.{Out, items_of, most_items}
 use Rattle.items.specs.Reading.Out.{good, bad}
 use Rattle.items.specs.Grammar.{encode_all, Balanced, AllValid, Grammar, records_from, Reads}
 use Rattle.items.proofs.Exact.{written, reads, exact}
+use Rattle.services.specs.Parts.{Answer}
 use Rattle.services.specs.Reading.{layout_for, after_tags, read_service}
 use Rattle.services.specs.Layout.{Message, pointed, valued, optional, things_of_message, encode, WholeValue}
 use Rattle.services.specs.Layout.Message.{read_property, read_property_ack, write_property, who_is, i_am, error_of}
 use Rattle.services.specs.Shows.{message_of, ValueReads, Shows, ValidFor}
-use Rattle.services.specs.declared.Answer.{Answer}
-use Rattle.services.specs.declared.Answer.TheVariants.{Good}
 use Rattle.services.specs.declared.Service.{Service}
 use Rattle.services.specs.declared.Service.TheVariants.{ReadProperty, ReadPropertyAck, WriteProperty, WhoIs, IAm, Error}
 use Rattle.services.proofs.Things.{never, Here, encode_append, valid_left, valid_right, valued_valid, valued_length}
@@ -27,7 +27,7 @@ use Rattle.services.proofs.Layouts.{ValueStands, layout_shown}
 use Rattle.services.proofs.Written.{value_of, layout_reads}
 
 -- a service is read from good items only
-tags_good : (f : List Rec → Answer) (out : Out) (v : Service) → after_tags f out ≡ Good v → (rs : List Rec) × ((end : ℕ) × (out ≡ good rs end) × (f rs ≡ Good v))
+tags_good : (f : List Rec → Answer) (out : Out) (v : Service) → after_tags f out ≡ Ok v → (rs : List Rec) × ((end : ℕ) × (out ≡ good rs end) × (f rs ≡ Ok v))
 tags_good f (good rs end) v e = (rs, (end, refl, e))
 tags_good f (bad x) v e = never x v e
 
@@ -99,12 +99,12 @@ pub record Accepted (kind choice : ℕ) (o : List ℕ) (v : Service) : Type 0 wh
   pub octets : o ≡ encode (message_of v value)
 
 module _ (kind choice : ℕ) where
-  pub accepted : (o : List ℕ) → Octets o → (v : Service) → read_service kind choice o ≡ Good v → Accepted kind choice o v
+  pub accepted : (o : List ℕ) → Octets o → (v : Service) → read_service kind choice o ≡ Ok v → Accepted kind choice o v
   unfolding read_service
   accepted o os v e =
       let g = tags_good (layout_for kind choice o) (items_of o) v e in
       let w = written o os g.0 g.1.0 g.1.1 in
-      let r : layout_for kind choice o (records_from 0 0 w.things) ≡ Good v = subst (λ (rs : List Rec). layout_for kind choice o rs ≡ Good v) w.records g.1.2 in
+      let r : layout_for kind choice o (records_from 0 0 w.things) ≡ Ok v = subst (λ (rs : List Rec). layout_for kind choice o rs ≡ Ok v) w.records g.1.2 in
       let s = layout_shown o os kind choice w.things v (all_here o w.things w.grammar w.octets) r in
       let i : Grammar (things_of_message (message_of v s.value)) = subst Grammar s.things w.grammar in
       record {

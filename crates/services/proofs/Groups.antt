@@ -13,8 +13,7 @@ use Rattle.tags.specs.Layout.{Thing, encode, tag_length}
 use Rattle.tags.specs.Layout.Thing.{application, boolean, context, opening, closing}
 use Rattle.items.specs.Records.{Rec}
 use Rattle.items.specs.Grammar.{encode_all, Balanced, record_of, depth_after, records_from}
-use Rattle.services.specs.Parts.{after_group}
-use Rattle.services.specs.declared.Answer.{Answer}
+use Rattle.services.specs.Parts.{Answer, after_group}
 
 -- more items may begin
 pub balanced_more : (k j : ℕ) → k ≤ j → (groups : List ℕ) (ts : List Thing) → Balanced k groups ts → Balanced j groups ts

@@ -1,4 +1,5 @@
 -- What stands where a layout was read.
+use Rattle.std.specs.Prelude.{Ok}
 use Prim.Native.Nat.{ℕ, ◌+◌, ◌*◌, ◌%◌, ◌≤◌}
 use native.Mathlib.Omega.{arith}
 use mathlib.Core.Path.{◌≡◌, refl, sym, ap, subst, ◌∙◌}
@@ -13,14 +14,12 @@ use Rattle.octets.specs.Numbers.{digits}
 use Rattle.tags.specs.Layout.{Thing}
 use Rattle.tags.specs.Layout.Thing.{application, context}
 use Rattle.items.specs.Grammar.{encode_all, records_from}
-use Rattle.services.specs.Parts.{present, any_number, context_number, group, last}
+use Rattle.services.specs.Parts.{Answer, present, any_number, context_number, group, last}
 use Rattle.services.specs.Reading.{last_instance, layout_for}
 use Rattle.services.specs.Reading as reading
 use Rattle.services.specs.Places.{priority_part, capable_part}
 use Rattle.services.specs.Layout.{shortest, optional, pointed, valued, things_of_message, Absent, Ranges, WholeValue}
 use Rattle.services.specs.Shows.{For, message_of, value_octets}
-use Rattle.services.specs.declared.Answer.{Answer}
-use Rattle.services.specs.declared.Answer.TheVariants.{Good}
 use Rattle.services.specs.declared.Service.{Service}
 use Rattle.services.specs.declared.Service.TheVariants.{ReadProperty, ReadPropertyAck, WriteProperty, WhoIs, IAm, Error}
 use Rattle.services.specs.declared.Target.{Target}
@@ -55,7 +54,7 @@ record Capable (word longest : ℕ) (ts : List Thing) (v : Service) : Type 0 whe
   small : vendor ≤ 65535
   service : IAm (record { instance = word % 4194304; longest = longest; segmentation = segmentation; vendor = vendor }) ≡ v
 
-capable_read : (o : List ℕ) → Octets o → (word longest at : ℕ) (ts : List Thing) (v : Service) → Here o at ts → capable_part o word longest (records_from at 0 ts) ≡ Good v → Capable word longest ts v
+capable_read : (o : List ℕ) → Octets o → (word longest at : ℕ) (ts : List Thing) (v : Service) → Here o at ts → capable_part o word longest (records_from at 0 ts) ≡ Ok v → Capable word longest ts v
 capable_read o os word longest at ts v h e =
     let a = number_read o 0 9 (application 9) (applications 9 (λ e. omega arith)) os 0 3 _ at ts v h e in
     let b = last_number o os 0 2 (application 2) (applications 2 (λ e. omega arith)) 0 65535 (λ vendor. IAm (record { instance = word % 4194304; longest = longest; segmentation = a.value; vendor = vendor })) _ a.rest v a.left a.goes in
@@ -70,7 +69,7 @@ record Ranked (t : Target) (value : Span) (ts : List Thing) (v : Service) : Type
   absent : Absent ranked priority
   service : WriteProperty (record { target = t; value = value; ranked = ranked; priority = priority }) ≡ v
 
-ranked_read : (o : List ℕ) → Octets o → (t : Target) (value : Span) (at : ℕ) (ts : List Thing) (v : Service) → Here o at ts → priority_part o t value (records_from at 0 ts) ≡ Good v → Ranked t value ts v
+ranked_read : (o : List ℕ) → Octets o → (t : Target) (value : Span) (at : ℕ) (ts : List Thing) (v : Service) → Here o at ts → priority_part o t value (records_from at 0 ts) ≡ Ok v → Ranked t value ts v
 ranked_read o os t value at ts v h e =
     let p = option_read o 4 1 16 _ os at ts v h e in
     let l = last_read _ p.rest _ v p.goes in
@@ -84,7 +83,7 @@ ranked_read o os t value at ts v h e =
     }
 
 module _ (o : List ℕ) (os : Octets o) (kind choice : ℕ) (ts : List Thing) (v : Service) (h : Here o 0 ts) where
-  property_shown : kind ≡ 0 → choice ≡ 12 → reading.read_property o (records_from 0 0 ts) ≡ Good v → Shown kind choice o ts v
+  property_shown : kind ≡ 0 → choice ≡ 12 → reading.read_property o (records_from 0 0 ts) ≡ Ok v → Shown kind choice o ts v
   unfolding reading.read_property message_of things_of_message pointed
   property_shown k c e =
       let t = target_read o os (λ t. last (ReadProperty t)) 0 ts v h e in
@@ -98,7 +97,7 @@ module _ (o : List ℕ) (os : Octets o) (kind choice : ℕ) (ts : List Thing) (v
         octets = refl;
       })
 
-  ack_shown : kind ≡ 3 → choice ≡ 12 → reading.read_property_ack o (records_from 0 0 ts) ≡ Good v → Shown kind choice o ts v
+  ack_shown : kind ≡ 3 → choice ≡ 12 → reading.read_property_ack o (records_from 0 0 ts) ≡ Ok v → Shown kind choice o ts v
   unfolding reading.read_property_ack message_of things_of_message
   ack_shown k c e =
       let t = target_read o os (λ t. group 3 (λ value. last (ReadPropertyAck (record { target = t; value = value })))) 0 ts v h e in
@@ -113,7 +112,7 @@ module _ (o : List ℕ) (os : Octets o) (kind choice : ℕ) (ts : List Thing) (v
         octets = g.octets;
       })
 
-  write_shown : kind ≡ 0 → choice ≡ 15 → reading.write_property o (records_from 0 0 ts) ≡ Good v → Shown kind choice o ts v
+  write_shown : kind ≡ 0 → choice ≡ 15 → reading.write_property o (records_from 0 0 ts) ≡ Ok v → Shown kind choice o ts v
   unfolding reading.write_property message_of things_of_message
   write_shown k c e =
       let t = target_read o os _ 0 ts v h e in
@@ -128,7 +127,7 @@ module _ (o : List ℕ) (os : Octets o) (kind choice : ℕ) (ts : List Thing) (v
         octets = g.octets;
       })
 
-  limits_shown : kind ≡ 1 → choice ≡ 8 → context_number o 0 0 last_instance (λ low. context_number o 1 low last_instance (λ high. last (WhoIs (record { limited = true; low = low; high = high })))) (records_from 0 0 ts) ≡ Good v → Shown kind choice o ts v
+  limits_shown : kind ≡ 1 → choice ≡ 8 → context_number o 0 0 last_instance (λ low. context_number o 1 low last_instance (λ high. last (WhoIs (record { limited = true; low = low; high = high })))) (records_from 0 0 ts) ≡ Ok v → Shown kind choice o ts v
   unfolding message_of things_of_message
   limits_shown k c e =
       let a = number_read o 1 0 (context 0) (contexts 0) os 0 last_instance _ 0 ts v h e in
@@ -142,14 +141,14 @@ module _ (o : List ℕ) (os : Octets o) (kind choice : ℕ) (ts : List Thing) (v
         octets = refl;
       })
 
-  who_shown : kind ≡ 1 → choice ≡ 8 → reading.who_is o (records_from 0 0 ts) ≡ Good v → Shown kind choice o ts v
+  who_shown : kind ≡ 1 → choice ≡ 8 → reading.who_is o (records_from 0 0 ts) ≡ Ok v → Shown kind choice o ts v
   unfolding reading.who_is message_of things_of_message
   who_shown k c e =
       by_test (present 0 (records_from 0 0 ts)) (λ p. limits_shown k c (rw p at e)) (λ p.
       let l = last_read 0 ts (WhoIs (record { limited = false; low = 0; high = 0 })) v (rw p at e) in
       subst (Shown kind choice o ts) l.1 (record { value = []; layout = (k, c); things = l.0; ranges = (λ f. not_so f, λ _. refl, λ _. refl); whole = tt; octets = refl }))
 
-  am_shown : kind ≡ 1 → choice ≡ 0 → reading.i_am o (records_from 0 0 ts) ≡ Good v → Shown kind choice o ts v
+  am_shown : kind ≡ 1 → choice ≡ 0 → reading.i_am o (records_from 0 0 ts) ≡ Ok v → Shown kind choice o ts v
   unfolding reading.i_am message_of things_of_message
   am_shown k c e =
       let d = device_read o os _ 0 ts v h e in
@@ -164,7 +163,7 @@ module _ (o : List ℕ) (os : Octets o) (kind choice : ℕ) (ts : List Thing) (v
         octets = refl;
       })
 
-  error_shown : kind ≡ 5 → (choice ≡ 12) ⊎ (choice ≡ 15) → reading.error_of o (records_from 0 0 ts) ≡ Good v → Shown kind choice o ts v
+  error_shown : kind ≡ 5 → (choice ≡ 12) ⊎ (choice ≡ 15) → reading.error_of o (records_from 0 0 ts) ≡ Ok v → Shown kind choice o ts v
   unfolding reading.error_of message_of things_of_message
   error_shown k c e =
       let nine = applications 9 (λ e. omega arith) in
@@ -183,7 +182,7 @@ module _ (o : List ℕ) (os : Octets o) (kind choice : ℕ) (ts : List Thing) (v
   tested : (k n : ℕ) → both (eqb kind k) (eqb choice n) ≡ true → (kind ≡ k) × (choice ≡ n)
   tested k n b = let w = both_true (eqb kind k) (eqb choice n) b in (eqb-true kind k w.0, eqb-true choice n w.1)
 
-  pub layout_shown : layout_for kind choice o (records_from 0 0 ts) ≡ Good v → Shown kind choice o ts v
+  pub layout_shown : layout_for kind choice o (records_from 0 0 ts) ≡ Ok v → Shown kind choice o ts v
   unfolding layout_for
   layout_shown =
       pick_cases P (both (eqb kind 0) (eqb choice 12)) (λ b. let w = tested 0 12 b in property_shown w.0 w.1) (λ _.
@@ -195,4 +194,4 @@ module _ (o : List ℕ) (os : Octets o) (kind choice : ℕ) (ts : List Thing) (v
       pick_cases P (both (eqb kind 5) (eqb choice 15)) (λ b. let w = tested 5 15 b in error_shown w.0 (inr w.1)) (λ _. never 43 v)))))))
     where
       P : Answer → Type 0
-      P a = a ≡ Good v → Shown kind choice o ts v
+      P a = a ≡ Ok v → Shown kind choice o ts v

@@ -1,18 +1,18 @@
 -- The numbers of items that parts are wanted of, part by part: what the first part, there, absent, missing or broken, makes of the offence behind it.
+use Rattle.std.specs.Prelude.{Ok, Err}
 use Prim.Native.Nat.{ℕ}
 use mathlib.Core.Path.{◌≡◌, refl, sym, ap, subst, ◌∙◌}
 use mathlib.Core.Logic.{◌⊎◌, inl, inr, ⊎_elim}
 use mathlib.Core.List.{List, [], ◌∷◌, ◌++◌}
 use Rattle.octets.specs.Choice.{impossible}
 use Rattle.tags.specs.Layout.{Thing}
+use Rattle.services.specs.Parts.{Answer}
 use Rattle.services.specs.Rows.{Breaks, Keeps, Wanted, item_of, rule_of, Comes, Optional, Behind, brings, Taken, Takes, Offence}
 use Rattle.services.specs.Rows.Breaks.{wrong_length, longer_form, out_of_range}
 use Rattle.services.specs.Rows.Wanted.{in_context, of_type, group, optional, limits}
 use Rattle.services.specs.Rows.Taken.{there, absent}
 use Rattle.services.specs.Rows.Takes.{so_far, one_more}
 use Rattle.services.specs.Rows.Offence.{missing, broken, after_last}
-use Rattle.services.specs.declared.Answer.{Answer}
-use Rattle.services.specs.declared.Answer.TheVariants.{Good, Refused}
 use Rattle.services.specs.declared.Service.{Service}
 
 -- behind a front that is good so far there is an offence of this number
@@ -21,8 +21,8 @@ Refuses x ws ts = (ws' : List Wanted) × ((ts' : List Thing) × Takes ws ts ws' 
 
 -- an answer refuses with exactly the numbers that there are offences of
 pub record Says (ws : List Wanted) (ts : List Thing) (a : Answer) : Type 0 where
-  pub sound : (x : ℕ) → a ≡ Refused x → Refuses x ws ts
-  pub complete : (x : ℕ) → Refuses x ws ts → a ≡ Refused x
+  pub sound : (x : ℕ) → a ≡ Err x → Refuses x ws ts
+  pub complete : (x : ℕ) → Refuses x ws ts → a ≡ Err x
 
 -- the offence is the first part's, or that part was taken and it stands further on
 record Further (x : ℕ) (w : Wanted) (ws : List Wanted) (ts : List Thing) : Type 0 where
@@ -36,7 +36,7 @@ first x so_far f = inl f
 first x (one_more {more = more} {ws' = ws'} {left = left} {ts' = ts'} t u) f = inr (record { more = more; left = left; taken = t; later = (ws', (ts', u, f)) })
 
 -- a refusal's number
-same_number : {x y : ℕ} → Refused x ≡ Refused y → x ≡ y
+same_number : {x y : ℕ} → ◌≡◌ {A = Answer} (Err x) (Err y) → x ≡ y
 same_number e = cc
 
 -- one item of a part has one list of contents: they keep the rule or break it, and bring one list of parts
@@ -57,10 +57,10 @@ brings_same (optional n r) xs ys e = refl
 brings_same limits xs ys e = let z : xs ≡ ys = cc in ap (brings limits) z
 
 -- ---- 42, and no part and no item left
-last_offence : (x : ℕ) {ws' : List Wanted} {t : Thing} {ts ts' : List Thing} → Takes [] (t ∷ ts) ws' ts' → Offence x ws' ts' → Refused 42 ≡ Refused x
+last_offence : (x : ℕ) {ws' : List Wanted} {t : Thing} {ts ts' : List Thing} → Takes [] (t ∷ ts) ws' ts' → Offence x ws' ts' → ◌≡◌ {A = Answer} (Err 42) (Err x)
 last_offence x so_far after_last = refl
 
-pub says_after : (t : Thing) (ts : List Thing) → Says [] (t ∷ ts) (Refused 42)
+pub says_after : (t : Thing) (ts : List Thing) → Says [] (t ∷ ts) (Err 42)
 says_after t ts = record { sound = λ x e. ([], (t ∷ ts, so_far, subst (λ (n : ℕ). Offence n [] (t ∷ ts)) (same_number e) after_last)); complete = λ x r. last_offence x r.1.1 r.1.2 }
 
 -- a part or an item is left where there is an offence
@@ -77,7 +77,7 @@ some_left x after_last = tt
 none_left : (x : ℕ) {ws' : List Wanted} {ts' : List Thing} → Takes [] [] ws' ts' → Offence x ws' ts' → ⊥
 none_left x so_far f = some_left x f
 
-pub says_good : (v : Service) → Says [] [] (Good v)
+pub says_good : (v : Service) → Says [] [] (Ok v)
 says_good v = record { sound = λ x e. impossible (cc); complete = λ x r. absurd (none_left x r.1.1 r.1.2) }
 
 module _ (w : Wanted) (ws : List Wanted) (ts : List Thing) where
@@ -87,7 +87,7 @@ module _ (w : Wanted) (ws : List Wanted) (ts : List Thing) where
 
   -- ---- 40
   module _ (required : Optional w → ⊥) (other : Comes w ts → ⊥) where
-    its_own : (x : ℕ) → Offence x (w ∷ ws) ts → Refused 40 ≡ Refused x
+    its_own : (x : ℕ) → Offence x (w ∷ ws) ts → ◌≡◌ {A = Answer} (Err 40) (Err x)
     its_own x (missing r o) = refl
     its_own x (broken xs rest e b) = absurd (other (xs, (rest, e)))
 
@@ -95,7 +95,7 @@ module _ (w : Wanted) (ws : List Wanted) (ts : List Thing) where
     no_further more left (there xs rest e k b m) = other (xs, (rest, e))
     no_further more left (absent o c l m) = required o
 
-    pub says_missing : Says (w ∷ ws) ts (Refused 40)
+    pub says_missing : Says (w ∷ ws) ts (Err 40)
     says_missing =
         record {
           sound = λ x e. (w ∷ ws, (ts, so_far, subst (λ (n : ℕ). Offence n (w ∷ ws) ts) (same_number e) (missing required other)));
@@ -112,7 +112,7 @@ module _ (w : Wanted) (ws : List Wanted) (ts : List Thing) where
 
     -- ---- 41
     module _ (breaks : Breaks (rule_of w) xs) where
-      broken_own : (x : ℕ) → Offence x (w ∷ ws) ts → Refused 41 ≡ Refused x
+      broken_own : (x : ℕ) → Offence x (w ∷ ws) ts → ◌≡◌ {A = Answer} (Err 41) (Err x)
       broken_own x (missing r o) = absurd (o (xs, (rest, e)))
       broken_own x (broken ys us d b) = refl
 
@@ -120,7 +120,7 @@ module _ (w : Wanted) (ws : List Wanted) (ts : List Thing) where
       broken_further more left (there ys us d k b m) = not_both w xs ys (same_item ys us d) breaks k
       broken_further more left (absent o c l m) = c (xs, (rest, e))
 
-      pub says_broken : Says (w ∷ ws) ts (Refused 41)
+      pub says_broken : Says (w ∷ ws) ts (Err 41)
       says_broken =
           record {
             sound = λ x d. (w ∷ ws, (ts, so_far, subst (λ (n : ℕ). Offence n (w ∷ ws) ts) (same_number d) (broken xs rest e breaks)));
@@ -133,7 +133,7 @@ module _ (w : Wanted) (ws : List Wanted) (ts : List Thing) where
       kept_own x (missing r o) = absurd (o (xs, (rest, e)))
       kept_own x (broken ys us d b) = absurd (not_both w ys xs (sym (same_item ys us d)) b keeps)
 
-      kept_further : (x : ℕ) (more : List Wanted) (left : List Thing) → Taken w ts more left → Refuses x (more ++ ws) left → a ≡ Refused x
+      kept_further : (x : ℕ) (more : List Wanted) (left : List Thing) → Taken w ts more left → Refuses x (more ++ ws) left → a ≡ Err x
       kept_further x more left (there ys us d k b m) r =
           let z : more ≡ brings w xs = m ∙ sym (brings_same w xs ys (same_item ys us d)) in
           (behind left (subst (λ (vs : List Thing). Behind w vs left) (same_rest ys us d) b)).complete x (subst (λ (vs : List Wanted). Refuses x (vs ++ ws) left) z r)
@@ -152,7 +152,7 @@ module _ (w : Wanted) (ws : List Wanted) (ts : List Thing) where
     absent_own x (missing r o) = absurd (r option)
     absent_own x (broken xs rest e b) = absurd (other (xs, (rest, e)))
 
-    absent_further : (x : ℕ) (more : List Wanted) (left : List Thing) → Taken w ts more left → Refuses x (more ++ ws) left → a ≡ Refused x
+    absent_further : (x : ℕ) (more : List Wanted) (left : List Thing) → Taken w ts more left → Refuses x (more ++ ws) left → a ≡ Err x
     absent_further x more left (there xs rest e k b m) r = absurd (other (xs, (rest, e)))
     absent_further x more left (absent o c l m) r = later.complete x (subst (λ (us : List Thing). Refuses x ws us) l (subst (λ (vs : List Wanted). Refuses x (vs ++ ws) left) m r))
 

@@ -1,4 +1,5 @@
 -- The parts of a layout as they are read among items: each refuses with the number of the offence that the page's words say.
+use Rattle.std.specs.Prelude.{Err}
 use Prim.Native.Nat.{ℕ, zero, suc, ◌+◌, ◌≤◌}
 use native.Mathlib.Omega.{arith}
 use mathlib.Core.Path.{◌≡◌, refl, sym, ap, subst, ◌∙◌}
@@ -14,15 +15,13 @@ use Rattle.tags.specs.Layout.Thing.{application, boolean, context, opening, clos
 use Rattle.items.specs.Records.{Rec, rec}
 use Rattle.items.specs.Reading.{most_items}
 use Rattle.items.specs.Grammar.{Balanced, record_of, records_from}
-use Rattle.services.specs.Parts.{Then, is, present, wanted, number_of, last}
+use Rattle.services.specs.Parts.{Answer, Then, is, present, wanted, number_of, last}
 use Rattle.services.specs.Parts as parts
 use Rattle.services.specs.Layout.{valued}
 use Rattle.services.specs.Rows.{Rule, number_in, Keeps, Wanted, item_of, rule_of, Comes, Optional, Behind, brings}
 use Rattle.services.specs.Rows.Rule.{nothing}
 use Rattle.services.specs.Rows.Breaks.{wrong_length, longer_form, out_of_range}
 use Rattle.services.specs.Rows.Wanted.{in_context, of_type, group, optional, limits}
-use Rattle.services.specs.declared.Answer.{Answer}
-use Rattle.services.specs.declared.Answer.TheVariants.{Refused}
 use Rattle.services.specs.declared.Service.{Service}
 use Rattle.services.specs.declared.Span.{Span}
 use Rattle.services.proofs.Spelling.{stands_value}
@@ -88,7 +87,7 @@ module _ (o : List ℕ) (w : Wanted) (kind number : ℕ) (single : Single w kind
     abbrev Onward : Type 0
     Onward = (at : ℕ) (xs : List ℕ) (rest : List Thing) → Here o (behind at xs) rest → Says (brings w xs ++ ws) rest (next (number_in xs) (records_from (behind at xs) 0 rest))
 
-    breaks_is : (at : ℕ) (xs : List ℕ) (rest : List Thing) → Here o at (item_of w xs ∷ rest) → rule (rec kind number 0 0 (contents_at at xs) (length xs)) ≡ 41 → part at (item_of w xs ∷ rest) ≡ Refused 41
+    breaks_is : (at : ℕ) (xs : List ℕ) (rest : List Thing) → Here o at (item_of w xs ∷ rest) → rule (rec kind number 0 0 (contents_at at xs) (length xs)) ≡ 41 → part at (item_of w xs ∷ rest) ≡ Err 41
     unfolding wanted
     breaks_is at xs rest h e = rw (records_are o kind number (item_of w) single.shape at xs rest h, eq-eqb kind kind refl, eq-eqb number number refl, e)
 

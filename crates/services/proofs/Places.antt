@@ -1,7 +1,8 @@
 -- What a tag at a place says of the records that are left from there on.
+use Rattle.std.specs.Prelude.{Ok, Err}
 use Prim.Native.Nat.{ℕ, ◌+◌, ◌-◌, ◌≤◌, ◌<◌}
 use native.Mathlib.Omega.{arith}
-use mathlib.Core.Path.{◌≡◌, refl, sym, subst, ◌∙◌}
+use mathlib.Core.Path.{◌≡◌, refl, sym, ap, subst, ◌∙◌}
 use mathlib.Core.List.{List, [], ◌∷◌, ◌++◌}
 use mathlib.Core.Bool.{true, false}
 use lib.ListN.{length}
@@ -14,64 +15,62 @@ use Rattle.tags.specs.Types.{least, most}
 use Rattle.tags.specs.Reading.{head_at}
 use Rattle.tags.specs.Layout.{Thing, Valid, Good, tag_of}
 use Rattle.tags.specs.Layout.Thing.{application, boolean, context, opening, closing}
-use Rattle.tags.specs.declared.Tag.{Tag}
-use Rattle.tags.specs.declared.Tag.TheVariants.{Item, Opening, Closing}
+use Rattle.tags.specs.Head.{Tag}
+use Rattle.tags.specs.Head.Tag.{Item, Opening, Closing}
 use Rattle.tags.proofs.Bounds.{TagIn, head_in}
 use Rattle.tags.proofs.Exact.{head_sound}
 use Rattle.items.specs.Records.{Rec, rec}
 use Rattle.items.specs.Reading.{Out, items_of, more, step, item_at, end_of, within, most_items}
 use Rattle.items.specs.Reading.Out.{good, bad}
 use Rattle.items.specs.Left.{Left, Opens, AllDeep}
-use Rattle.items.specs.declared.One.{One}
+use Rattle.items.specs.Answers.{One}
 use Rattle.items.specs.Listing.{ReadAs}
 use Rattle.items.proofs.Left.{left_all, left_end, left_refused, left_closing, left_item, left_group}
 use Rattle.items.proofs.Machine.{more_good}
 use Rattle.items.proofs.Onward.{within_past}
 use Rattle.items.proofs.Steps.{tag_in}
-use Rattle.services.specs.Parts.{Then, is, present, wanted, number_of, number_rule, any_number, context_number, context_object, after_group, group, last}
-use Rattle.services.specs.Reading.{target_parts, layout_for, read_service}
-use Rattle.services.specs.Places.{found_in, Answers, Goes, Stops, Presence, index_part, Topped, OptionalTopped, PartSays, OptionalSays, TargetSays, ValueSays}
-use Rattle.services.specs.declared.Answer.{Answer}
-use Rattle.services.specs.declared.Answer.TheVariants.{Refused}
+use Rattle.services.specs.Parts.{Answer, is, present, wanted, number_of, number_rule, after_group, group, last}
+use Rattle.services.specs.Reading.{layout_for, read_service}
+use Rattle.std.specs.declared.option.Option.{Option}
+use Rattle.std.specs.declared.option.Option.TheVariants.{None, Some}
+use Rattle.services.specs.Places.{found_in, Answers, Goes, Stops, Presence}
 use Rattle.services.specs.declared.Service.{Service}
-use Rattle.services.specs.declared.Target.{Target}
 use Rattle.services.specs.declared.Span.{Span}
-use Rattle.services.specs.declared.parts.Part.{Part}
-use Rattle.services.specs.declared.parts.Optional.{Optional}
-use Rattle.services.specs.declared.parts.OptionalPart.{OptionalPart}
-use Rattle.services.specs.declared.parts.TargetPart.{TargetPart}
-use Rattle.services.specs.declared.parts.ValuePart.{ValuePart}
-use Rattle.services.specs.declared.parts.Found.TheVariants.{At, Missing}
 
 -- the first of the records that are left, or that there is none, is of another kind or number
 abbrev Lacks : ℕ → ℕ → List Rec → Type 0
 Lacks kind number [] = Unit {0}
 Lacks kind number (r ∷ rest) = is kind number r ≡ false
 
+-- contents stand at p
+abbrev At : ℕ → ℕ → Option Span
+At p l = Some (record { at = p; len = l })
+
 -- which item was found
 found_tag : (kind number p l : ℕ) (t : Tag) → found_in kind number t ≡ At p l → (v : ℕ) × (t ≡ Item kind number v p l)
 unfolding found_in
 found_tag kind number p l (Item k n v q m) e =
-    let w = pick_so (both (eqb k kind) (eqb n number)) (At q m) Missing (At p l) (λ d. impossible (cc)) e in
+    let w = pick_so (both (eqb k kind) (eqb n number)) (At q m) None (At p l) (λ d. impossible (cc)) e in
     let b = both_true (eqb k kind) (eqb n number) w.0 in
     let x : k ≡ kind = eqb-true k kind b.0 in
     let y : n ≡ number = eqb-true n number b.1 in
-    let z : q ≡ p = cc w.1 in
-    let u : m ≡ l = cc w.1 in
+    let g : ◌≡◌ {A = Span} (record { at = q; len = m }) (record { at = p; len = l }) = cc w.1 in
+    let z : q ≡ p = ap (λ (c : Span). c.at) g in
+    let u : m ≡ l = ap (λ (c : Span). c.len) g in
     (v, rw (x, y, z, u))
 found_tag kind number p l (Opening n q) e = impossible (cc)
 found_tag kind number p l (Closing n q) e = impossible (cc)
 found_tag kind number p l (Tag.Refused x) e = impossible (cc)
 
-both_false : (k n kind number d v p l : ℕ) → pick (both (eqb k kind) (eqb n number)) (At p l) Missing ≡ Missing → is kind number (rec k n d v p l) ≡ false
-both_false k n kind number d v p l e = (pick_not (both (eqb k kind) (eqb n number)) (At p l) Missing Missing (λ d. impossible (cc)) e).0
+both_false : (k n kind number d v p l : ℕ) → pick (both (eqb k kind) (eqb n number)) (At p l) None ≡ None → is kind number (rec k n d v p l) ≡ false
+both_false k n kind number d v p l e = (pick_not (both (eqb k kind) (eqb n number)) (At p l) None None (λ d. impossible (cc)) e).0
 
 -- no tag is refused where records are left, so a refused one stands at the end
 nothing_left : (s : List ℕ) (at : ℕ) (rs : List Rec) → Left s at rs → (x : ℕ) → head_at s at ≡ Tag.Refused x → rs ≡ []
 nothing_left s at rs w x e =
     by_test (leb (length s) at) (λ h. left_end s at rs w (leb-true (length s) at h)) (λ h. absurd (left_refused s at rs w (leb-false (length s) at h) x e))
 
-lacks : (s : List ℕ) (at kind number : ℕ) → kind ≤ 1 → (t : Tag) → head_at s at ≡ t → found_in kind number t ≡ Missing → (rs : List Rec) → Left s at rs → Lacks kind number rs
+lacks : (s : List ℕ) (at kind number : ℕ) → kind ≤ 1 → (t : Tag) → head_at s at ≡ t → found_in kind number t ≡ None → (rs : List Rec) → Left s at rs → Lacks kind number rs
 unfolding found_in
 lacks s at kind number small (Item k n v p l) e f rs w = let g = left_item s at rs w k n v p l e in rw g.1 (both_false k n kind number 0 v p l f)
 lacks s at kind number small (Opening n p) e f rs w = let g = left_group s at rs w n p e in rw (g.own, ne_eqb 2 kind (omega arith))
@@ -79,15 +78,15 @@ lacks s at kind number small (Closing n p) e f rs w = absurd (left_closing s at 
 lacks s at kind number small (Tag.Refused x) e f rs w = rw (nothing_left s at rs w x e) tt
 
 -- the wanted item is missing
-missing_is : (kind number : ℕ) (rule value : Rec → ℕ) (next : ℕ → List Rec → Answer) (rs : List Rec) → Lacks kind number rs → wanted kind number rule value next rs ≡ Refused 40
+missing_is : (kind number : ℕ) (rule value : Rec → ℕ) (next : ℕ → List Rec → Answer) (rs : List Rec) → Lacks kind number rs → wanted kind number rule value next rs ≡ Err 40
 unfolding wanted
 missing_is kind number rule value next [] h = refl
 missing_is kind number rule value next (r ∷ rest) h = rw h
 
-pub missing : (s : List ℕ) (at kind number : ℕ) (rule value : Rec → ℕ) → kind ≤ 1 → found_in kind number (head_at s at) ≡ Missing → Stops s at (wanted kind number rule value) 40
+pub missing : (s : List ℕ) (at kind number : ℕ) (rule value : Rec → ℕ) → kind ≤ 1 → found_in kind number (head_at s at) ≡ None → Stops s at (wanted kind number rule value) 40
 missing s at kind number rule value small e next rs w = sym (missing_is kind number rule value next rs (lacks s at kind number small (head_at s at) refl e rs w))
 
-pub absent : (s : List ℕ) (at number : ℕ) → found_in 1 number (head_at s at) ≡ Missing → Presence s at number false
+pub absent : (s : List ℕ) (at number : ℕ) → found_in 1 number (head_at s at) ≡ None → Presence s at number false
 unfolding present
 absent s at number e rs w = go rs (lacks s at 1 number (omega arith) (head_at s at) refl e rs w)
   where
@@ -146,17 +145,10 @@ number_kept s low high r e =
       most = ltb-false high (number_of s r) f.0;
     }
 
-pub kept_of_lem : (s : List ℕ) (low high p l x : ℕ) → x ≡ number_rule s low high (rec 0 0 0 0 p l) → x ≤ 0 → Kept s low high p l
-kept_of_lem s low high p l x e h = number_kept s low high (rec 0 0 0 0 p l) (omega arith)
-
 -- the rule looks at the contents alone
 pub number_bare : (s : List ℕ) (low high k n d v p l : ℕ) → number_rule s low high (rec k n d v p l) ≡ number_rule s low high (rec 0 0 0 0 p l)
 unfolding number_rule
 number_bare s low high k n d v p l = refl
-
-pub number_none : (s : List ℕ) (low high k n d v p l x : ℕ) → x ≡ number_rule s low high (rec 0 0 0 0 p l) → x ≤ 0 → number_rule s low high (rec k n d v p l) ≡ 0
-unfolding number_rule
-number_none s low high k n d v p l x e h = omega arith
 
 -- an application object has four octets
 four_of : (at v p l : ℕ) (t : Thing) → Valid t → tag_of at t ≡ Item 0 12 v p l → l ≡ 4
@@ -185,11 +177,11 @@ some_left s at rs w h (Opening n p) e = let g = left_group s at rs w n p e in (r
 some_left s at rs w h (Closing n p) e = absurd (left_closing s at rs w n p e)
 some_left s at rs w h (Tag.Refused x) e = absurd (left_refused s at rs w h x e)
 
-pub last_more : (s : List ℕ) (at : ℕ) (v : Service) → at < length s → Answers s at (last v) (Refused 42)
+pub last_more : (s : List ℕ) (at : ℕ) (v : Service) → at < length s → Answers s at (last v) (Err 42)
 unfolding last
 last_more s at v h rs w = let g = some_left s at rs w h (head_at s at) refl in rw g.1.1
 
-pub last_end : (s : List ℕ) (at : ℕ) (v : Service) → length s ≤ at → Answers s at (last v) (Answer.Good v)
+pub last_end : (s : List ℕ) (at : ℕ) (v : Service) → length s ≤ at → Answers s at (last v) (Ok v)
 unfolding last
 last_end s at v h rs w = rw (left_end s at rs w h)
 
@@ -256,53 +248,12 @@ module _ (s : List ℕ) (at n p number : ℕ) (e : head_at s at ≡ Opening n p)
       let z : ◌≡◌ {A = ℕ} 0 1 = cc q in
       absurd (omega arith)
 
--- what an answer says once its case is known
-module _ (s : List ℕ) (at : ℕ) (part : Then → List Rec → Answer) (q : Part) (says : PartSays s at part q) where
-  pub part_goes : {v to : ℕ} → q ≡ Part.Is v to → Goes s at part v to
-  part_goes e = subst (PartSays s at part) e says
-
-  pub part_stops : {x : ℕ} → q ≡ Part.Refused x → Stops s at part x
-  part_stops e = subst (PartSays s at part) e says
-
-pub topped : (high : ℕ) (q : Part) → Topped high q → {v to : ℕ} → q ≡ Part.Is v to → v ≤ high
-topped high q h e = subst (Topped high) e h
-
-pub option_topped : (high : ℕ) (q : OptionalPart) → OptionalTopped high q → {v : Optional} {to : ℕ} → q ≡ OptionalPart.Is v to → v.value ≤ high
-option_topped high q h e = subst (OptionalTopped high) e h
-
-module _ (s : List ℕ) (at : ℕ) (part : (Optional → List Rec → Answer) → List Rec → Answer) (q : OptionalPart) (says : OptionalSays s at part q) where
-  pub option_goes : {v : Optional} {to : ℕ} → q ≡ OptionalPart.Is v to → Goes s at part v to
-  option_goes e = subst (OptionalSays s at part) e says
-
-  pub option_stops : {x : ℕ} → q ≡ OptionalPart.Refused x → Stops s at part x
-  option_stops e = subst (OptionalSays s at part) e says
-
-module _ (s : List ℕ) (at : ℕ) (part : (Target → List Rec → Answer) → List Rec → Answer) (q : TargetPart) (says : TargetSays s at part q) where
-  pub target_goes : {v : Target} {to : ℕ} → q ≡ TargetPart.Is v to → Goes s at part v to
-  target_goes e = subst (TargetSays s at part) e says
-
-  pub target_stops : {x : ℕ} → q ≡ TargetPart.Refused x → Stops s at part x
-  target_stops e = subst (TargetSays s at part) e says
-
-module _ (s : List ℕ) (at : ℕ) (part : (Span → List Rec → Answer) → List Rec → Answer) (q : ValuePart) (says : ValueSays s at part q) where
-  pub value_goes : {v : Span} {to : ℕ} → q ≡ ValuePart.Is v to → Goes s at part v to
-  value_goes e = subst (ValueSays s at part) e says
-
-  pub value_stops : {x : ℕ} → q ≡ ValuePart.Refused x → Stops s at part x
-  value_stops e = subst (ValueSays s at part) e says
-
--- a target after its object and property
-pub target_rest : (s : List ℕ) (a b v property : ℕ) → Goes s 0 (context_object s 0) v a → Goes s a (context_number s 1 0 any_number) property b → (q : TargetPart) → TargetSays s b (index_part s v property) q → TargetSays s 0 (target_parts s) q
-unfolding target_parts
-target_rest s a b v property g h (TargetPart.Is t to) w = λ next r k. g _ r (h _ r (w next r k))
-target_rest s a b v property g h (TargetPart.Refused x) w = λ next. g _ (Refused x) (h _ (Refused x) (w next))
-
 -- the whole reading
 module _ (kind choice : ℕ) (s : List ℕ) where
   pub read_good : (n : ℕ) → ReadAs s n → (r : Answer) → Answers s 0 (layout_for kind choice s) r → r ≡ read_service kind choice s
   unfolding read_service
   read_good n (rs, end, e, k) r h = rw e (h rs (left_all s rs end e))
 
-  pub read_bad : (x : ℕ) → items_of s ≡ bad x → Refused x ≡ read_service kind choice s
+  pub read_bad : (x : ℕ) → items_of s ≡ bad x → Err x ≡ read_service kind choice s
   unfolding read_service
   read_bad x e = rw e

@@ -1,4 +1,5 @@
 -- Objects among items: a target (object, property, optional index) and a device.
+use Rattle.std.specs.Prelude.{Ok}
 use Prim.Native.Nat.{ℕ, ◌+◌, ◌*◌, ◌/◌, ◌%◌, ◌^◌, ◌≤◌, ◌<◌}
 use native.Mathlib.Omega.{arith}
 use mathlib.Core.Path.{◌≡◌, refl, sym, ap, subst, ◌∙◌}
@@ -16,11 +17,9 @@ use Rattle.tags.specs.Layout.{Thing, encode, tag_length, Application}
 use Rattle.tags.specs.Layout.Thing.{application, context}
 use Rattle.items.specs.Records.{Rec, rec}
 use Rattle.items.specs.Grammar.{encode_all, AllValid, records_from}
-use Rattle.services.specs.Parts.{Then, present, wanted, number_of, any_number, object_rule, context_number, optional_number}
+use Rattle.services.specs.Parts.{Answer, Then, present, wanted, number_of, any_number, object_rule, context_number, optional_number}
 use Rattle.services.specs.Reading.{last_instance, target, target_parts, device_rule}
 use Rattle.services.specs.Layout.{Pointed, Pointing, shortest, optional, pointed}
-use Rattle.services.specs.declared.Answer.{Answer}
-use Rattle.services.specs.declared.Answer.TheVariants.{Good}
 use Rattle.services.specs.declared.Service.{Service}
 use Rattle.services.specs.declared.Target.{Target}
 use Rattle.services.proofs.Spelling.{stands_digits, digits_stand, object_kept, object_keeps}
@@ -43,7 +42,7 @@ pub record Targeted (o : List ℕ) (next : Target → List Rec → Answer) (at :
   pub rest : List Thing
   pub things : ts ≡ pointed point ++ rest
   pub pointing : Pointing point
-  pub goes : next (target_of point) (records_from (at + length (encode_all (pointed point))) 0 rest) ≡ Good v
+  pub goes : next (target_of point) (records_from (at + length (encode_all (pointed point))) 0 rest) ≡ Ok v
   pub left : Here o (at + length (encode_all (pointed point))) rest
 
 -- from its contents, which are four octets, the property and the index
@@ -58,7 +57,7 @@ module _ (o : List ℕ) (os : Octets o) (next : Target → List Rec → Answer) 
   end = at + length (encode (context 0 xs)) + length (encode (context 1 (shortest x))) + length (encode_all (optional here 2 y))
 
   targeted : Has o (at + tag_length (context 0 xs)) xs → length xs ≡ 4 → x ≤ any_number → y ≤ any_number → (here ≡ false → y ≡ 0)
-      → next (target word x here y) (records_from end 0 rest) ≡ Good v → Here o end rest → Targeted o next at (context 0 xs ∷ context 1 (shortest x) ∷ (optional here 2 y ++ rest)) v
+      → next (target word x here y) (records_from end 0 rest) ≡ Ok v → Here o end rest → Targeted o next at (context 0 xs ∷ context 1 (shortest x) ∷ (optional here 2 y ++ rest)) v
   unfolding pointed
   targeted stands four bx by absent goes left =
       let same : word ≡ object_of point = omega arith in
@@ -70,7 +69,7 @@ module _ (o : List ℕ) (os : Octets o) (next : Target → List Rec → Answer) 
         rest = rest;
         things = ap (λ (xs : List ℕ). context 0 xs ∷ context 1 (shortest x) ∷ (optional here 2 y ++ rest)) d;
         pointing = record { object = omega arith; instance = omega arith; property = bx; index = by; absent = absent };
-        goes = subst (λ (y : ℕ). next (target_of point) (records_from y 0 rest) ≡ Good v) q goes;
+        goes = subst (λ (y : ℕ). next (target_of point) (records_from y 0 rest) ≡ Ok v) q goes;
         left = subst (λ (y : ℕ). Here o y rest) q left;
       }
 
@@ -78,7 +77,7 @@ pub small_option : (here : Bool) (x low high : ℕ) → (here ≡ true → (low 
 small_option true x low high f g = (f refl).1
 small_option false x low high f g = omega (arith, g refl)
 
-pub target_read : (o : List ℕ) → Octets o → (next : Target → List Rec → Answer) (at : ℕ) (ts : List Thing) (v : Service) → Here o at ts → target_parts o next (records_from at 0 ts) ≡ Good v → Targeted o next at ts v
+pub target_read : (o : List ℕ) → Octets o → (next : Target → List Rec → Answer) (at : ℕ) (ts : List Thing) (v : Service) → Here o at ts → target_parts o next (records_from at 0 ts) ≡ Ok v → Targeted o next at ts v
 unfolding target_parts
 target_read o os next at ts v h e =
     let a = part_read o 1 0 (context 0) (contexts 0) object_rule _ at ts v h e in
@@ -116,7 +115,7 @@ pub record Device (o : List ℕ) (next : Then) (at : ℕ) (ts : List Thing) (v :
   pub word : ℕ
   pub rest : List Thing
   pub things : ts ≡ application 12 (digits 4 (8 * 4194304 + word % 4194304)) ∷ rest
-  pub goes : next word (records_from (at + length (encode (application 12 (digits 4 word)))) 0 rest) ≡ Good v
+  pub goes : next word (records_from (at + length (encode (application 12 (digits 4 word)))) 0 rest) ≡ Ok v
   pub left : Here o (at + length (encode (application 12 (digits 4 word)))) rest
 
 objects : Shape 0 12 (application 12)
@@ -128,7 +127,7 @@ module _ (o : List ℕ) (os : Octets o) (next : Then) (at : ℕ) (xs : List ℕ)
   number = value_at o (at + tag_length (application 12 xs)) (length xs)
 
   device : Has o (at + tag_length (application 12 xs)) xs → Application 12 xs → device_rule o (rec 0 12 0 0 (at + tag_length (application 12 xs)) (length xs)) ≡ 0
-      → next number (records_from (at + length (encode (application 12 xs))) 0 rest) ≡ Good v → Here o (at + length (encode (application 12 xs))) rest → Device o next at (application 12 xs ∷ rest) v
+      → next number (records_from (at + length (encode (application 12 xs))) 0 rest) ≡ Ok v → Here o (at + length (encode (application 12 xs))) rest → Device o next at (application 12 xs ∷ rest) v
   unfolding device_rule least most
   device stands valid kept goes left =
       let low : 4 ≤ length xs = valid.low in
@@ -141,11 +140,11 @@ module _ (o : List ℕ) (os : Octets o) (next : Then) (at : ℕ) (xs : List ℕ)
         word = number;
         rest = rest;
         things = ap (λ (xs : List ℕ). application 12 xs ∷ rest) (d ∙ ap (digits 4) same);
-        goes = subst (λ (xs : List ℕ). next number (records_from (at + length (encode (application 12 xs))) 0 rest) ≡ Good v) d goes;
+        goes = subst (λ (xs : List ℕ). next number (records_from (at + length (encode (application 12 xs))) 0 rest) ≡ Ok v) d goes;
         left = subst (λ (xs : List ℕ). Here o (at + length (encode (application 12 xs))) rest) d left;
       }
 
-pub device_read : (o : List ℕ) → Octets o → (next : Then) (at : ℕ) (ts : List Thing) (v : Service) → Here o at ts → wanted 0 12 (device_rule o) (number_of o) next (records_from at 0 ts) ≡ Good v → Device o next at ts v
+pub device_read : (o : List ℕ) → Octets o → (next : Then) (at : ℕ) (ts : List Thing) (v : Service) → Here o at ts → wanted 0 12 (device_rule o) (number_of o) next (records_from at 0 ts) ≡ Ok v → Device o next at ts v
 device_read o os next at ts v h e =
     let a = part_read o 0 12 (application 12) objects (device_rule o) next at ts v h e in
     subst (λ (us : List Thing). Device o next at us v) (sym a.things) (device o os next at a.contents a.rest v a.stands (subst AllValid a.things h.valid).0 a.kept a.goes a.left)

@@ -1,4 +1,5 @@
 -- The numbers of a service: 40 to 42 of a layout, 43 where a kind and choice have none, and before them those of its tags.
+use Rattle.std.specs.Prelude.{Ok, Err}
 use Prim.Native.Nat.{ℕ, ◌≤◌, ◌<◌}
 use native.Mathlib.Omega.{arith}
 use mathlib.Core.Path.{◌≡◌, refl, sym, subst, ◌∙◌}
@@ -14,28 +15,26 @@ use Rattle.items.specs.Records.{Rec}
 use Rattle.items.specs.Reading.{Out, items_of}
 use Rattle.items.specs.Reading.Out.{good, bad}
 use Rattle.items.proofs.Refusals.{OutHas, items_have}
-use Rattle.services.specs.Parts.{Then, is, present, wanted, number_rule, number_of, object_rule, type_of, optional_number, group, after_group, last}
+use Rattle.services.specs.Parts.{Answer, Then, is, present, wanted, number_rule, number_of, object_rule, type_of, optional_number, group, after_group, last}
 use Rattle.services.specs.Reading.{target_parts, device_rule, layout_for, after_tags, read_service}
 use Rattle.services.specs.Reading as reading
 use Rattle.services.specs.Layout.{Pointed, Message}
 use Rattle.services.specs.Layout.Message.{read_property, read_property_ack, write_property, who_is, i_am, error_of}
 use Rattle.services.specs.Shows.{For}
-use Rattle.services.specs.declared.Answer.{Answer}
-use Rattle.services.specs.declared.Answer.TheVariants.{Good, Refused}
 use Rattle.services.specs.declared.Service.{Service}
 use Rattle.services.specs.declared.Target.{Target}
 use Rattle.services.specs.declared.Span.{Span}
 
 -- a refusal's number has the property; what is good has no number
 abbrev pub AnswerHas : (ℕ → Type 0) → Answer → Type 0
-AnswerHas P (Good v) = Unit {0}
-AnswerHas P (Refused x) = P x
+AnswerHas P (Ok v) = Unit {0}
+AnswerHas P (Err x) = P x
 
 -- ---- the parts of a layout: 40 to 42
 abbrev pub Low : Answer → Type 0
 Low = AnswerHas (λ x. (40 ≤ x) × (x ≤ 42))
 
-r40 : Low (Refused 40)
+r40 : Low (Err 40)
 r40 = (omega arith, omega arith)
 
 -- a rule's number, 41 or none
@@ -56,7 +55,7 @@ device_rule_lem : (s : List ℕ) (r : Rec) → Rule (device_rule s r)
 unfolding device_rule
 device_rule_lem s r = pick_case Rule (eqb (type_of (number_of s r)) 8) (inl refl) (inr refl)
 
-ruled : (x : ℕ) → Rule x → 0 < x → Low (Refused x)
+ruled : (x : ℕ) → Rule x → 0 < x → Low (Err x)
 ruled x (inl e) l = absurd (omega arith)
 ruled x (inr e) l = (omega arith, omega arith)
 
@@ -99,7 +98,7 @@ nowhere = record { object = 0; instance = 0; property = 0; indexed = false; inde
 
 -- a layout's answer where there is a message of the kind and choice; 43 where there is none
 abbrev pub Laid : ℕ → ℕ → Answer → Type 0
-Laid kind choice a = (((m : Message) × For kind choice m) × Low a) ⊎ (((m : Message) → For kind choice m → ⊥) × (a ≡ Refused 43))
+Laid kind choice a = (((m : Message) × For kind choice m) × Low a) ⊎ (((m : Message) → For kind choice m → ⊥) × (a ≡ Err 43))
 
 module _ (kind choice : ℕ) (s : List ℕ) (rs : List Rec) where
   abbrev row : ℕ → ℕ → Bool
@@ -142,8 +141,8 @@ unfolding read_service
 read_has P all kind choice s = tags_have P (layout_for kind choice s) layout (items_of s) (items_have P (λ n low high. all n low (omega arith)) s)
   where
     low : (a : Answer) → Low a → AnswerHas P a
-    low (Good v) h = tt
-    low (Refused x) h = all x (omega arith) (omega arith)
+    low (Ok v) h = tt
+    low (Err x) h = all x (omega arith) (omega arith)
 
     layout : (rs : List Rec) → AnswerHas P (layout_for kind choice s rs)
     layout rs = ⊎_elim (λ l. low (layout_for kind choice s rs) l.1) (λ n. subst (AnswerHas P) (sym n.1) (all 43 (omega arith) (omega arith))) (layout_numbers kind choice s rs)

@@ -1,4 +1,5 @@
 -- The numbers 40 to 43 of a service, each given exactly when the page's words say so.
+use Rattle.std.specs.Prelude.{Ok, Err}
 use Prim.Native.Nat.{ℕ, ◌≤◌}
 use native.Mathlib.Omega.{arith}
 use mathlib.Core.Path.{◌≡◌, refl, sym, ap, subst, ◌∙◌}
@@ -13,7 +14,7 @@ use Rattle.items.specs.Records.{Rec}
 use Rattle.items.specs.Reading.{items_of}
 use Rattle.items.specs.Grammar.{encode_all, records_from, Reads}
 use Rattle.items.proofs.Exact.{reads, exact}
-use Rattle.services.specs.Parts.{Then, wanted, number_of, number_rule, object_rule, context_number, application_number, context_object, optional_number, last}
+use Rattle.services.specs.Parts.{Answer, Then, wanted, number_of, number_rule, object_rule, context_number, application_number, context_object, optional_number, last}
 use Rattle.services.specs.Reading.{last_instance, target_parts, device_rule, layout_for, after_tags, read_service}
 use Rattle.services.specs.Reading as reading
 use Rattle.services.specs.Layout.{Message, things_of_message, encode}
@@ -24,8 +25,6 @@ use Rattle.services.specs.Rows.Rule.{number, object, object_of}
 use Rattle.services.specs.Rows.Wanted.{in_context, of_type, group, optional, limits}
 use Rattle.services.specs.Rows.LaidOut.{read_property as laid_read_property, read_property_ack as laid_read_property_ack, write_property as laid_write_property, who_is as laid_who_is, i_am as laid_i_am, error_of as laid_error_of}
 use Rattle.services.specs.Rows.Given.{offended, no_layout}
-use Rattle.services.specs.declared.Answer.{Answer}
-use Rattle.services.specs.declared.Answer.TheVariants.{Good, Refused}
 use Rattle.services.specs.declared.Service.{Service}
 use Rattle.services.specs.declared.Service.TheVariants.{WhoIs}
 use Rattle.services.specs.declared.Target.{Target}
@@ -147,36 +146,36 @@ module _ (kind choice : ℕ) (o : List ℕ) (os : Octets o) (ts : List Thing) (r
   unfolding read_service
   by_layout = let g = exact.sound o ts os r in ap (after_tags (layout_for kind choice o)) (ap items_of g.1 ∙ reads ts g.0)
 
-  sound : (x : ℕ) → laid ≡ Refused x → Laid kind choice laid → Given x kind choice ts
+  sound : (x : ℕ) → laid ≡ Err x → Laid kind choice laid → Given x kind choice ts
   sound x e (inl (m, l)) =
       let f = for_laid kind choice m.0 m.1 in
       let s = (laid_says o ts here kind choice f.0 f.1).sound x e in
       offended f.0 s.0 s.1.0 f.1 s.1.1 s.1.2
   sound x e (inr (none, d)) =
-      let z : Refused x ≡ Refused 43 = sym e ∙ d in
+      let z : Err x ≡ Err 43 = sym e ∙ d in
       no_layout (cc z) (λ ws l. let m = laid_for kind choice ws l in none m.0 m.1)
 
-  unlaid : ((ws : List Wanted) → LaidOut kind choice ws → ⊥) → Laid kind choice laid → laid ≡ Refused 43
+  unlaid : ((ws : List Wanted) → LaidOut kind choice ws → ⊥) → Laid kind choice laid → laid ≡ Err 43
   unlaid none (inl (m, l)) = let f = for_laid kind choice m.0 m.1 in absurd (none f.0 f.1)
   unlaid none (inr (n, d)) = d
 
-  complete : (x : ℕ) → Given x kind choice ts → laid ≡ Refused x
+  complete : (x : ℕ) → Given x kind choice ts → laid ≡ Err x
   complete x (offended ws ws' ts' l t f) = (laid_says o ts here kind choice ws l).complete x (ws', (ts', t, f))
   complete x (no_layout e none) = rw e (unlaid none (layout_numbers kind choice o (records_from 0 0 ts)))
 
   -- A service's items are refused with a number exactly when that number's row says so.
-  pub rows_exact : (x : ℕ) → (read_service kind choice o ≡ Refused x) ↔ Given x kind choice ts
+  pub rows_exact : (x : ℕ) → (read_service kind choice o ≡ Err x) ↔ Given x kind choice ts
   rows_exact x = (λ e. sound x (sym by_layout ∙ e) (layout_numbers kind choice o (records_from 0 0 ts)), λ g. by_layout ∙ complete x g)
 
   -- and they are read exactly when they are a message that keeps the rules
-  pub good_message : (v : Service) → read_service kind choice o ≡ Good v → (m : Message) × ValidFor kind choice m × (ts ≡ things_of_message m)
+  pub good_message : (v : Service) → read_service kind choice o ≡ Ok v → (m : Message) × ValidFor kind choice m × (ts ≡ things_of_message m)
   good_message v e =
       let a = accepted kind choice o os v e in
       let m : Message = message_of v a.value in
       let w : Reads o (things_of_message m) = subst (λ (p : List ℕ). Reads p (things_of_message m)) (sym a.octets) (exact.complete (things_of_message m) a.valid.valid.items) in
       (m, a.valid, reads_one o ts (things_of_message m) r w)
 
-  pub message_good : (m : Message) → ValidFor kind choice m → ts ≡ things_of_message m → (v : Service) × (read_service kind choice o ≡ Good v)
+  pub message_good : (m : Message) → ValidFor kind choice m → ts ≡ things_of_message m → (v : Service) × (read_service kind choice o ≡ Ok v)
   message_good m ok e =
       let s = (exactly kind choice).complete m ok in
       let z : o ≡ encode m = (exact.sound o ts os r).1 ∙ ap encode_all e in

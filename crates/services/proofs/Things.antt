@@ -1,4 +1,5 @@
 -- The parts of a service among items: what is read of the items that stand from a place on, and what stands there where a part was read.
+use Rattle.std.specs.Prelude.{Ok, Err}
 use Prim.Native.Nat.{ℕ, zero, suc, ◌+◌, ◌-◌, ◌≤◌}
 use native.Mathlib.Omega.{arith}
 use mathlib.Core.Path.{◌≡◌, refl, sym, ap, subst, ◌∙◌}
@@ -17,11 +18,9 @@ use Rattle.tags.proofs.Exact.{contents_stand}
 use Rattle.items.specs.Records.{Rec, rec}
 use Rattle.items.specs.Reading.{most_items}
 use Rattle.items.specs.Grammar.{encode_all, Balanced, AllValid, record_of, depth_after, records_from}
-use Rattle.services.specs.Parts.{Then, is, present, wanted, number_of, number_rule, any_number, optional_number, group, last}
+use Rattle.services.specs.Parts.{Answer, Then, is, present, wanted, number_of, number_rule, any_number, optional_number, group, last}
 use Rattle.services.specs.Layout.{shortest, optional, valued}
 use Rattle.services.specs.Shows.{value_octets}
-use Rattle.services.specs.declared.Answer.{Answer}
-use Rattle.services.specs.declared.Answer.TheVariants.{Good, Refused}
 use Rattle.services.specs.declared.Service.{Service}
 use Rattle.services.specs.declared.Span.{Span}
 use Rattle.services.proofs.Places.{number_kept}
@@ -29,7 +28,7 @@ use Rattle.services.proofs.Spelling.{spelled, shortest_value, shortest_keeps}
 use Rattle.services.proofs.Groups.{balanced_more, split, past}
 
 -- good and refused are never both
-pub never : {X : Type 0} (x : ℕ) (v : Service) → Refused x ≡ Good v → X
+pub never : {X : Type 0} (x : ℕ) (v : Service) → Err x ≡ Ok v → X
 never x v e = impossible (cc)
 
 -- these items stand from a place on, with no group open
@@ -84,12 +83,12 @@ fits_so : (b : Bool) → non b ≡ false → b ≡ true
 fits_so true e = refl
 fits_so false e = sym e
 
-wanted_good : (kind number : ℕ) (rule value : Rec → ℕ) (next : Then) (r : Rec) (rest : List Rec) (v : Service) → wanted kind number rule value next (r ∷ rest) ≡ Good v
-    → (is kind number r ≡ true) × (rule r ≡ 0) × (next (value r) rest ≡ Good v)
+wanted_good : (kind number : ℕ) (rule value : Rec → ℕ) (next : Then) (r : Rec) (rest : List Rec) (v : Service) → wanted kind number rule value next (r ∷ rest) ≡ Ok v
+    → (is kind number r ≡ true) × (rule r ≡ 0) × (next (value r) rest ≡ Ok v)
 unfolding wanted
 wanted_good kind number rule value next r rest v e =
-    let a = pick_not (non (is kind number r)) (Refused 40) _ (Good v) (never 40 v) e in
-    let b = pick_not (ltb 0 (rule r)) (Refused (rule r)) (next (value r) rest) (Good v) (never (rule r) v) a.1 in
+    let a = pick_not (non (is kind number r)) (Err 40) _ (Ok v) (never 40 v) e in
+    let b = pick_not (ltb 0 (rule r)) (Err (rule r)) (next (value r) rest) (Ok v) (never (rule r) v) a.1 in
     let z = ltb-false 0 (rule r) b.0 in
     (fits_so (is kind number r) a.0, omega arith, b.1)
 
@@ -143,21 +142,21 @@ module _ (o : List ℕ) (kind number : ℕ) (make : List ℕ → Thing) (shape :
     pub things : ts ≡ make contents ∷ rest
     pub kept : rule (rec kind number 0 0 (place at contents) (length contents)) ≡ 0
     pub stands : Has o (place at contents) contents
-    pub goes : next (value_at o (place at contents) (length contents)) (records_from (after at contents) 0 rest) ≡ Good v
+    pub goes : next (value_at o (place at contents) (length contents)) (records_from (after at contents) 0 rest) ≡ Ok v
     pub left : Here o (after at contents) rest
 
-  part_of : (rule : Rec → ℕ) (next : Then) (at : ℕ) (xs : List ℕ) (ts : List Thing) (v : Service) → Here o at (make xs ∷ ts) → wanted kind number rule (number_of o) next (records_from at 0 (make xs ∷ ts)) ≡ Good v → Part rule next at (make xs ∷ ts) v
+  part_of : (rule : Rec → ℕ) (next : Then) (at : ℕ) (xs : List ℕ) (ts : List Thing) (v : Service) → Here o at (make xs ∷ ts) → wanted kind number rule (number_of o) next (records_from at 0 (make xs ∷ ts)) ≡ Ok v → Part rule next at (make xs ∷ ts) v
   part_of rule next at xs ts v h e =
       let w = wanted_good kind number rule (number_of o) next _ _ v (rw (records_are at xs ts h) at e) in
       record { contents = xs; rest = ts; things = refl; kept = w.1; stands = contents_here at xs ts h; goes = w.2; left = here_next at xs ts h }
 
-  pub part_read : (rule : Rec → ℕ) (next : Then) (at : ℕ) (ts : List Thing) (v : Service) → Here o at ts → wanted kind number rule (number_of o) next (records_from at 0 ts) ≡ Good v → Part rule next at ts v
+  pub part_read : (rule : Rec → ℕ) (next : Then) (at : ℕ) (ts : List Thing) (v : Service) → Here o at ts → wanted kind number rule (number_of o) next (records_from at 0 ts) ≡ Ok v → Part rule next at ts v
   unfolding records_from wanted
   part_read rule next at [] v h e = never 40 v e
   part_read rule next at (t ∷ ts) v h e =
       let w = wanted_good kind number rule (number_of o) next (record_of at 0 t) _ v e in
       let g = shape.only at t w.0 in
-      subst (λ (x : Thing). Here o at (x ∷ ts) → wanted kind number rule (number_of o) next (records_from at 0 (x ∷ ts)) ≡ Good v → Part rule next at (x ∷ ts) v) (sym g.1) (part_of rule next at g.0 ts v) h e
+      subst (λ (x : Thing). Here o at (x ∷ ts) → wanted kind number rule (number_of o) next (records_from at 0 (x ∷ ts)) ≡ Ok v → Part rule next at (x ∷ ts) v) (sym g.1) (part_of rule next at g.0 ts v) h e
 
   -- a number that was read
   pub record Number (low high : ℕ) (next : Then) (at : ℕ) (ts : List Thing) (v : Service) : Type 0 where
@@ -166,10 +165,10 @@ module _ (o : List ℕ) (kind number : ℕ) (make : List ℕ → Thing) (shape :
     pub things : ts ≡ make (shortest value) ∷ rest
     pub least : low ≤ value
     pub most : value ≤ high
-    pub goes : next value (records_from (after at (shortest value)) 0 rest) ≡ Good v
+    pub goes : next value (records_from (after at (shortest value)) 0 rest) ≡ Ok v
     pub left : Here o (after at (shortest value)) rest
 
-  pub number_read : Octets o → (low high : ℕ) (next : Then) (at : ℕ) (ts : List Thing) (v : Service) → Here o at ts → wanted kind number (number_rule o low high) (number_of o) next (records_from at 0 ts) ≡ Good v → Number low high next at ts v
+  pub number_read : Octets o → (low high : ℕ) (next : Then) (at : ℕ) (ts : List Thing) (v : Service) → Here o at ts → wanted kind number (number_rule o low high) (number_of o) next (records_from at 0 ts) ≡ Ok v → Number low high next at ts v
   number_read os low high next at ts v h e =
       let p = part_read (number_rule o low high) next at ts v h e in
       let k = number_kept o low high _ p.kept in
@@ -181,7 +180,7 @@ module _ (o : List ℕ) (kind number : ℕ) (make : List ℕ → Thing) (shape :
         things = p.things ∙ ap (λ (xs : List ℕ). make xs ∷ p.rest) s;
         least = k.least;
         most = k.most;
-        goes = subst (λ (xs : List ℕ). next x (records_from (after at xs) 0 p.rest) ≡ Good v) s p.goes;
+        goes = subst (λ (xs : List ℕ). next x (records_from (after at xs) 0 p.rest) ≡ Ok v) s p.goes;
         left = subst (λ (xs : List ℕ). Here o (after at xs) p.rest) s p.left;
       }
 
@@ -205,7 +204,7 @@ module _ (o : List ℕ) (n low high : ℕ) (next : Bool → ℕ → List Rec →
     pub things : ts ≡ optional here n value ++ rest
     pub range : here ≡ true → (low ≤ value) × (value ≤ high)
     pub absent : here ≡ false → value ≡ 0
-    pub goes : next here value (records_from (behind at here value) 0 rest) ≡ Good v
+    pub goes : next here value (records_from (behind at here value) 0 rest) ≡ Ok v
     pub left : Here o (behind at here value) rest
 
   behind_one : (at x : ℕ) → at + length (encode (context n (shortest x))) ≡ behind at true x
@@ -216,7 +215,7 @@ module _ (o : List ℕ) (n low high : ℕ) (next : Bool → ℕ → List Rec →
   unfolding encode_all
   behind_none at = omega arith
 
-  pub option_read : Octets o → (at : ℕ) (ts : List Thing) (v : Service) → Here o at ts → optional_number o n low high next (records_from at 0 ts) ≡ Good v → Option at ts v
+  pub option_read : Octets o → (at : ℕ) (ts : List Thing) (v : Service) → Here o at ts → optional_number o n low high next (records_from at 0 ts) ≡ Ok v → Option at ts v
   unfolding optional_number
   option_read os at ts v h e =
       by_test (present n (records_from at 0 ts))
@@ -229,7 +228,7 @@ module _ (o : List ℕ) (n low high : ℕ) (next : Bool → ℕ → List Rec →
         things = w.things;
         range = λ _. (w.least, w.most);
         absent = λ f. not_so (sym f);
-        goes = subst (λ (y : ℕ). next true w.value (records_from y 0 w.rest) ≡ Good v) (behind_one at w.value) w.goes;
+        goes = subst (λ (y : ℕ). next true w.value (records_from y 0 w.rest) ≡ Ok v) (behind_one at w.value) w.goes;
         left = subst (λ (y : ℕ). Here o y w.rest) (behind_one at w.value) w.left;
       })
       (λ p.
@@ -240,7 +239,7 @@ module _ (o : List ℕ) (n low high : ℕ) (next : Bool → ℕ → List Rec →
         things = refl;
         range = λ f. not_so f;
         absent = λ _. refl;
-        goes = subst (λ (y : ℕ). next false 0 (records_from y 0 ts) ≡ Good v) (behind_none at) (rw p at e);
+        goes = subst (λ (y : ℕ). next false 0 (records_from y 0 ts) ≡ Ok v) (behind_none at) (rw p at e);
         left = subst (λ (y : ℕ). Here o y ts) (behind_none at) h;
       })
 
@@ -261,7 +260,7 @@ module _ (o : List ℕ) (n low high : ℕ) (next : Bool → ℕ → List Rec →
       (rw (other, z, ← behind_none at), rw (← behind_none at) h)
 
 -- after the last item
-pub last_read : (at : ℕ) (ts : List Thing) (w v : Service) → last w (records_from at 0 ts) ≡ Good v → (ts ≡ []) × (w ≡ v)
+pub last_read : (at : ℕ) (ts : List Thing) (w v : Service) → last w (records_from at 0 ts) ≡ Ok v → (ts ≡ []) × (w ≡ v)
 unfolding last records_from
 last_read at [] w v e = (refl, (let z : w ≡ v = cc in z))
 last_read at (t ∷ ts) w v e = never _ v e
@@ -275,13 +274,13 @@ pub record LastNumber (make : List ℕ → Thing) (low high : ℕ) (build : ℕ 
   pub service : build value ≡ v
 
 pub last_number : (o : List ℕ) → Octets o → (kind number : ℕ) (make : List ℕ → Thing) → Shape kind number make → (low high : ℕ) (build : ℕ → Service) (at : ℕ) (ts : List Thing) (v : Service) → Here o at ts
-    → wanted kind number (number_rule o low high) (number_of o) (λ x. last (build x)) (records_from at 0 ts) ≡ Good v → LastNumber make low high build ts v
+    → wanted kind number (number_rule o low high) (number_of o) (λ x. last (build x)) (records_from at 0 ts) ≡ Ok v → LastNumber make low high build ts v
 last_number o os kind number make shape low high build at ts v h e =
     let a = number_read o kind number make shape os low high (λ x. last (build x)) at ts v h e in
     let l = last_read _ a.rest (build a.value) v a.goes in
     record { value = a.value; things = a.things ∙ ap (λ (us : List Thing). make (shortest a.value) ∷ us) l.0; least = a.least; most = a.most; service = l.1 }
 
-pub last_reads : (at : ℕ) (w : Service) → last w (records_from at 0 []) ≡ Good w
+pub last_reads : (at : ℕ) (w : Service) → last w (records_from at 0 []) ≡ Ok w
 unfolding last records_from
 last_reads at w = refl
 
@@ -380,11 +379,11 @@ pub record Grouped (o : List ℕ) (next : Span → List Rec → Answer) (at : �
   pub things : ts ≡ valued inner ++ rest
   pub whole : Balanced most_items [] inner
   pub octets : value_octets o (record { at = at + 1; len = length (encode_all inner) }) ≡ encode_all inner
-  pub goes : next (record { at = at + 1; len = length (encode_all inner) }) (records_from (at + length (encode_all (valued inner))) 0 rest) ≡ Good v
+  pub goes : next (record { at = at + 1; len = length (encode_all inner) }) (records_from (at + length (encode_all (valued inner))) 0 rest) ≡ Ok v
   pub left : Here o (at + length (encode_all (valued inner))) rest
 
 grouped : (o : List ℕ) (next : Span → List Rec → Answer) (at : ℕ) (inner rest : List Thing) (v : Service) → Here o at (valued inner ++ rest) → Balanced most_items [] inner → (j : ℕ) → j ≤ most_items → Balanced j [] rest
-    → group 3 next (records_from at 0 (valued inner ++ rest)) ≡ Good v → Grouped o next at (valued inner ++ rest) v
+    → group 3 next (records_from at 0 (valued inner ++ rest)) ≡ Ok v → Grouped o next at (valued inner ++ rest) v
 grouped o next at inner rest v h whole j most b e =
     record {
       inner = inner;
@@ -405,18 +404,18 @@ opens at (context m xs) e = not_so e
 opens at (opening m) e = rw (eqb-true m 3 e)
 opens at (closing m) e = not_so e
 
-group_of : (o : List ℕ) (next : Span → List Rec → Answer) (at : ℕ) (ts : List Thing) (v : Service) → (k : ℕ) → k ≤ most_items → Balanced k [] (opening 3 ∷ ts) → Here o at (opening 3 ∷ ts) → group 3 next (records_from at 0 (opening 3 ∷ ts)) ≡ Good v → Grouped o next at (opening 3 ∷ ts) v
+group_of : (o : List ℕ) (next : Span → List Rec → Answer) (at : ℕ) (ts : List Thing) (v : Service) → (k : ℕ) → k ≤ most_items → Balanced k [] (opening 3 ∷ ts) → Here o at (opening 3 ∷ ts) → group 3 next (records_from at 0 (opening 3 ∷ ts)) ≡ Ok v → Grouped o next at (opening 3 ∷ ts) v
 group_of o next at ts v zero small b h e = absurd b
 group_of o next at ts v (suc k) small b h e =
     let s = split 3 k [] ts b.1 in
     let z : opening 3 ∷ ts ≡ valued s.inner ++ s.rest = ap (λ (us : List Thing). opening 3 ∷ us) s.things ∙ sym (valued_append s.inner s.rest) in
-    subst (λ (us : List Thing). Here o at us → group 3 next (records_from at 0 us) ≡ Good v → Grouped o next at us v) (sym z)
+    subst (λ (us : List Thing). Here o at us → group 3 next (records_from at 0 us) ≡ Ok v → Grouped o next at us v) (sym z)
     (λ h e. grouped o next at s.inner s.rest v h (balanced_more k most_items (omega arith) [] s.inner s.whole) s.room (omega (arith, s.most)) s.behind e) h e
 
-pub group_read : (o : List ℕ) (next : Span → List Rec → Answer) (at : ℕ) (ts : List Thing) (v : Service) → Here o at ts → group 3 next (records_from at 0 ts) ≡ Good v → Grouped o next at ts v
+pub group_read : (o : List ℕ) (next : Span → List Rec → Answer) (at : ℕ) (ts : List Thing) (v : Service) → Here o at ts → group 3 next (records_from at 0 ts) ≡ Ok v → Grouped o next at ts v
 unfolding group records_from
 group_read o next at [] v h e = never 40 v e
 group_read o next at (t ∷ ts) v h e =
-    let w = pick_not (non (is 2 3 (record_of at 0 t))) (Refused 40) _ (Good v) (never 40 v) e in
+    let w = pick_not (non (is 2 3 (record_of at 0 t))) (Err 40) _ (Ok v) (never 40 v) e in
     let z = opens at t (fits_so (is 2 3 (record_of at 0 t)) w.0) in
-    subst (λ (u : Thing). Here o at (u ∷ ts) → group 3 next (records_from at 0 (u ∷ ts)) ≡ Good v → Grouped o next at (u ∷ ts) v) (sym z) (λ h e. group_of o next at ts v h.room h.most h.balanced h e) h e
+    subst (λ (u : Thing). Here o at (u ∷ ts) → group 3 next (records_from at 0 (u ∷ ts)) ≡ Ok v → Grouped o next at (u ∷ ts) v) (sym z) (λ h e. group_of o next at ts v h.room h.most h.balanced h e) h e

@@ -1,120 +1,104 @@
 -- The ways through the functions of the reading: what each promises, from what the calls in it promise and the tests that it took.
 use Prim.Native.Nat.{ℕ, ◌+◌, ◌-◌, ◌/◌, ◌^◌, ◌≤◌, ◌<◌}
 use native.Mathlib.Omega.{arith}
-use mathlib.Core.Path.{◌≡◌, sym, ◌∙◌}
+use mathlib.Core.Path.{◌≡◌, refl, sym, ap, ◌∙◌}
+use mathlib.Core.Logic.{◌⊎◌, inl, inr}
 use mathlib.Core.List.{List}
 use mathlib.Core.Bool.{Bool, true, false}
 use lib.ListN.{length}
-use lib.Dec.{ltb}
-use mir.Syntax.{Width, w8, w64}
-use mir.Val.{Fits, bits}
-use borrow.Author.Tests.{lt-ltb, le-ltb, eq-eqb, ne_eqb, ltb-true}
+use mir.Syntax.{w8, w64}
+use mir.Val.{Fits}
+use borrow.Author.Tests.{lt-ltb, le-ltb, eq-eqb, ne_eqb}
 use Rattle.octets.specs.Reading.{oct}
+use Rattle.octets.specs.declared.refusal.Refusal.{Refusal}
+use Rattle.octets.specs.Refusal as reason
+use Rattle.octets.specs.Refusal.{number_some}
 use Rattle.octets.specs.Numbers.{value_at, long_form}
 use Rattle.tags.specs.Reading.{head_at}
-use Rattle.tags.specs.declared.Tag.{Tag}
-use Rattle.tags.specs.declared.Tag.TheVariants.{Item, Opening, Closing}
+use Rattle.tags.specs.Head.{Tag, kind_of, seen_as, tag_of}
+use Rattle.tags.specs.declared.Class.{Class}
+use Rattle.tags.specs.declared.Tag as tag
+use Rattle.tags.specs.Head.Tag.{Item, Opening, Closing}
 use Rattle.items.specs.Records.{Rec, rec}
 use Rattle.items.specs.Reading.{item_at, end_of}
 use Rattle.items.specs.Listing.{Listed}
 use Rattle.items.specs.Left.{Left}
-use Rattle.items.specs.declared.One.{One}
-use Rattle.items.specs.declared.Tally.{Tally}
-use Rattle.items.specs.declared.Tally.TheVariants.{Items, Small}
+use Rattle.items.specs.Answers.{One}
+use Rattle.items.specs.Answers.{tally_of}
+use Rattle.items.specs.declared.Unlisted as unlisted
 use Rattle.items.proofs.Cases.{items_say, small_says, refused_says}
-use Rattle.services.specs.Parts.{Then, wanted, number_of, number_rule, object_rule, any_number, context_number, context_object, optional_number, group, last}
+use Rattle.services.specs.Parts.{Answer, Then, wanted, number_of, number_rule, object_rule, context_number, optional_number, group, last}
 use Rattle.services.specs.Reading.{target_parts, read_property, read_property_ack, write_property, who_is, device_rule, i_am, error_of, layout_for, read_service}
-use Rattle.services.specs.Places.{found_in, Answers, Goes, Stops, PartSays, Topped, Presence, optional_part, OptionalSays, OptionalTopped, TargetSays, ValueSays, index_part, limits_part}
-use Rattle.services.specs.declared.Answer.{Answer}
-use Rattle.services.specs.declared.Answer.TheVariants.{Refused}
+use Rattle.std.specs.Prelude.{Result, Ok, Err, is_some}
+use Rattle.std.specs.Option.{unwrap_or}
+use Rattle.std.specs.declared.option.Option.{Option}
+use Rattle.std.specs.declared.option.Option.TheVariants.{None, Some}
+use Rattle.services.specs.Places.{found_in, Answers, Goes, Stops, Presence, optional_part, limits_part}
 use Rattle.services.specs.declared.Service.TheVariants.{WhoIs}
 use Rattle.services.specs.declared.Target.{Target}
 use Rattle.services.specs.declared.Span.{Span}
-use Rattle.services.specs.declared.parts.Found.{Found}
-use Rattle.services.specs.declared.parts.Found.TheVariants.{At, Missing}
-use Rattle.services.specs.declared.parts.Part.{Part}
-use Rattle.services.specs.declared.parts.Optional.{Optional}
-use Rattle.services.specs.declared.parts.OptionalPart.{OptionalPart}
-use Rattle.services.specs.declared.parts.TargetPart.{TargetPart}
-use Rattle.services.specs.declared.parts.ValuePart.{ValuePart}
 use Rattle.services.proofs.Places
 
 -- ---- one part after another: where these records are left, a part is read and the reading goes on, or it refuses
 module _ (s : List ℕ) (at : ℕ) (rs : List Rec) (w : Left s at rs) where
-  module _ (kind number : ℕ) (rule value : Rec → ℕ) (next : Then) (q : Part) (says : PartSays s at (wanted kind number rule value) q) where
-    pub reads_item : (v to : ℕ) → q ≡ Part.Is v to → (r : Answer) → Answers s to (next v) r → r ≡ wanted kind number rule value next rs
-    reads_item v to e r h = Places.part_goes s at (wanted kind number rule value) q says e next r h rs w
+  module _ (kind number : ℕ) (rule value : Rec → ℕ) (next : Then) where
+    pub reads_item : (v to : ℕ) → Goes s at (wanted kind number rule value) v to → (r : Answer) → Answers s to (next v) r → r ≡ wanted kind number rule value next rs
+    reads_item v to goes r h = goes next r h rs w
 
-    pub stops_item : (x : ℕ) → q ≡ Part.Refused x → Refused x ≡ wanted kind number rule value next rs
-    stops_item x e = Places.part_stops s at (wanted kind number rule value) q says e next rs w
+    pub stops_item : (x : ℕ) → Stops s at (wanted kind number rule value) x → Err x ≡ wanted kind number rule value next rs
+    stops_item x stops = stops next rs w
 
-  module _ (number low high : ℕ) (next : Bool → ℕ → List Rec → Answer) (q : OptionalPart) (says : OptionalSays s at (optional_part s number low high) q) where
-    pub reads_number : (i : Optional) (to : ℕ) → q ≡ OptionalPart.Is i to → (r : Answer) → Answers s to (next i.present i.value) r
-        → r ≡ optional_number s number low high next rs
-    reads_number i to e r h = Places.option_goes s at (optional_part s number low high) q says e (λ i. next i.present i.value) r h rs w
+  module _ (number low high : ℕ) (next : Bool → ℕ → List Rec → Answer) where
+    pub reads_number : (i : Option ℕ) (to : ℕ) → Goes s at (optional_part s number low high) i to → (b : Bool) → b ≡ is_some i → (v : ℕ) → v ≡ unwrap_or i 0
+        → (r : Answer) → Answers s to (next b v) r → r ≡ optional_number s number low high next rs
+    unfolding optional_number
+    reads_number i to goes b e v f r h = goes (λ i. next (is_some i) (unwrap_or i 0)) r (rw (← e, ← f) h) rs w
 
-    pub stops_number : (x : ℕ) → q ≡ OptionalPart.Refused x → Refused x ≡ optional_number s number low high next rs
-    stops_number x e = Places.option_stops s at (optional_part s number low high) q says e (λ i. next i.present i.value) rs w
+    pub stops_number : (x : ℕ) → Stops s at (optional_part s number low high) x → Err x ≡ optional_number s number low high next rs
+    unfolding optional_number
+    stops_number x stops = stops (λ i. next (is_some i) (unwrap_or i 0)) rs w
 
-  module _ (next : Target → List Rec → Answer) (q : TargetPart) (says : TargetSays s at (target_parts s) q) where
-    pub reads_target : (t : Target) (to : ℕ) → q ≡ TargetPart.Is t to → (r : Answer) → Answers s to (next t) r → r ≡ target_parts s next rs
-    reads_target t to e r h = Places.target_goes s at (target_parts s) q says e next r h rs w
+  module _ (next : Target → List Rec → Answer) where
+    pub reads_target : (t : Target) (to : ℕ) → Goes s at (target_parts s) t to → (r : Answer) → Answers s to (next t) r → r ≡ target_parts s next rs
+    reads_target t to goes r h = goes next r h rs w
 
-    pub stops_target : (x : ℕ) → q ≡ TargetPart.Refused x → Refused x ≡ target_parts s next rs
-    stops_target x e = Places.target_stops s at (target_parts s) q says e next rs w
+    pub stops_target : (x : ℕ) → Stops s at (target_parts s) x → Err x ≡ target_parts s next rs
+    stops_target x stops = stops next rs w
 
-  module _ (number : ℕ) (next : Span → List Rec → Answer) (q : ValuePart) (says : ValueSays s at (group number) q) where
-    pub reads_group : (v : Span) (to : ℕ) → q ≡ ValuePart.Is v to → (r : Answer) → Answers s to (next v) r → r ≡ group number next rs
-    reads_group v to e r h = Places.value_goes s at (group number) q says e next r h rs w
+  module _ (number : ℕ) (next : Span → List Rec → Answer) where
+    pub reads_group : (v : Span) (to : ℕ) → Goes s at (group number) v to → (r : Answer) → Answers s to (next v) r → r ≡ group number next rs
+    reads_group v to goes r h = goes next r h rs w
 
-    pub stops_group : (x : ℕ) → q ≡ ValuePart.Refused x → Refused x ≡ group number next rs
-    stops_group x e = Places.value_stops s at (group number) q says e next rs w
+    pub stops_group : (x : ℕ) → Stops s at (group number) x → Err x ≡ group number next rs
+    stops_group x stops = stops next rs w
 
 pub ruleset in_turn = (reads_item, stops_item, reads_number, stops_number, reads_target, stops_target, reads_group, stops_group)
 
--- a target, after its object and its property
-pub target_ends : (s : List ℕ) (q : Part) → PartSays s 0 (context_object s 0) q → (v a : ℕ) → q ≡ Part.Is v a → (p : Part)
-    → PartSays s a (context_number s 1 0 any_number) p
-    → (property b : ℕ) → p ≡ Part.Is property b → (t : TargetPart) → TargetSays s b (index_part s v property) t → TargetSays s 0 (target_parts s) t
-target_ends s q h v a e p k property b f t w =
-    Places.target_rest s a b v property (Places.part_goes s 0 (context_object s 0) q h e) (Places.part_goes s a (context_number s 1 0 any_number) p k f) t w
-
--- a number that was read fits where the top of its range does
-pub small_part : (b : Width) (v to : ℕ) (q : Part) → q ≡ Part.Is v to → (high : ℕ) → Topped high q → ltb high (2 ^ bits b) ≡ true → Fits b v
-small_part b v to q e high h l = record { fits = omega (arith, Places.topped high q h e, ltb-true high (2 ^ bits b) l) }
-
-pub small_number : (b : Width) (i : Optional) (to : ℕ) (q : OptionalPart) → q ≡ OptionalPart.Is i to → (high : ℕ) → OptionalTopped high q
-    → ltb high (2 ^ bits b) ≡ true → Fits b i.value
-small_number b i to q e high h l = record { fits = omega (arith, Places.option_topped high q h e, ltb-true high (2 ^ bits b) l) }
-
 -- ---- the wanted item, t being the head at the place
-module _ (s : List ℕ) (at kind number : ℕ) (t : Tag) (e : t ≡ head_at s at) where
-  module _ (k n v p l : ℕ) (q : t ≡ Item k n v p l) where
-    pub found_kind : (k ≡ kind → ⊥) → Missing ≡ found_in kind number (head_at s at)
-    unfolding found_in
-    found_kind h = rw (← e, q, ne_eqb k kind h)
-
-    pub found_number : k ≡ kind → (n ≡ number → ⊥) → Missing ≡ found_in kind number (head_at s at)
-    unfolding found_in
-    found_number f h = rw (← e, q, eq-eqb k kind f, ne_eqb n number h)
-
-    pub found_item : k ≡ kind → n ≡ number → At p l ≡ found_in kind number (head_at s at)
-    unfolding found_in
-    found_item f h = rw (← e, q, eq-eqb k kind f, eq-eqb n number h)
-
-  pub found_opening : (n p : ℕ) → t ≡ Opening n p → Missing ≡ found_in kind number (head_at s at)
+module _ (s : List ℕ) (at kind number : ℕ) (t : tag.Tag) (e : seen_as t ≡ head_at s at) (k : Class) (n v p l : ℕ) (q : t ≡ tag.TheVariants.Item k n v p l) (c : ℕ) (d : c ≡ kind_of k) where
+  pub found_kind : (c ≡ kind → ⊥) → None ≡ found_in kind number (head_at s at)
   unfolding found_in
-  found_opening n p q = rw (← e, q)
+  found_kind h = rw (← e, q, ← d, ne_eqb c kind h)
 
-  pub found_closing : (n p : ℕ) → t ≡ Closing n p → Missing ≡ found_in kind number (head_at s at)
+  pub found_number : c ≡ kind → (n ≡ number → ⊥) → None ≡ found_in kind number (head_at s at)
   unfolding found_in
-  found_closing n p q = rw (← e, q)
+  found_number f h = rw (← e, q, ← d, eq-eqb c kind f, ne_eqb n number h)
 
-  pub found_refused : (x : ℕ) → t ≡ Tag.Refused x → Missing ≡ found_in kind number (head_at s at)
+  pub found_item : c ≡ kind → n ≡ number → Some (record { at = p; len = l }) ≡ found_in kind number (head_at s at)
   unfolding found_in
-  found_refused x q = rw (← e, q)
+  found_item f h = rw (← e, q, ← d, eq-eqb c kind f, eq-eqb n number h)
 
-pub ruleset finds = (found_kind, found_number, found_item, found_opening, found_closing, found_refused)
+-- another tag than an item's, and none
+pub found_none : (kind number : ℕ) (t : tag.Tag) → ((k : Class) (n v p l : ℕ) → t ≡ tag.TheVariants.Item k n v p l → ⊥) → None ≡ found_in kind number (seen_as t)
+unfolding found_in
+found_none kind number (tag.TheVariants.Item k n v p l) h = absurd (h k n v p l refl)
+found_none kind number (tag.TheVariants.Opening n p) h = refl
+found_none kind number (tag.TheVariants.Closing n p) h = refl
+
+pub found_refused : (kind number : ℕ) (t : Result tag.Tag Refusal) → ((u : tag.Tag) → t ≡ Ok u → ⊥) → None ≡ found_in kind number (tag_of t)
+unfolding found_in
+found_refused kind number (Ok u) h = absurd (h u refl)
+found_refused kind number (Err x) h = refl
 
 -- ---- what a number breaks, test by test
 module _ (s : List ℕ) (low high p l : ℕ) (some : l ≡ 0 → ⊥) (four : l ≤ 4) (b : Bool) (e : b ≡ long_form (oct s p) l) where
@@ -138,62 +122,60 @@ module _ (s : List ℕ) (low high p l : ℕ) (some : l ≡ 0 → ⊥) (four : l 
 pub ruleset number_rules = (rule_long, rule_low, rule_high, rule_none)
 
 -- a number that breaks no rule
-module _ (s : List ℕ) (low high p l x : ℕ) (k : x ≡ number_rule s low high (rec 0 0 0 0 p l)) (h : x ≤ 0) where
+module _ (s : List ℕ) (low high p l : ℕ) (k : 0 ≡ number_rule s low high (rec 0 0 0 0 p l)) where
   pub number_four : l ≤ 4
-  number_four = (Places.kept_of_lem s low high p l x k h).four
+  number_four = (Places.number_kept s low high (rec 0 0 0 0 p l) (sym k)).four
 
   pub number_most : (v : ℕ) → v ≡ value_at s p l → v ≤ high
-  number_most v e = rw e (Places.kept_of_lem s low high p l x k h).most
+  number_most v e = rw e (Places.number_kept s low high (rec 0 0 0 0 p l) (sym k)).most
 
 -- ---- the wanted item as a number, an object and a device, w being what was found
-module _ (s : List ℕ) (at kind number : ℕ) (w : Found) (e : w ≡ found_in kind number (head_at s at)) where
-  pub item_missing : w ≡ Missing → kind ≤ 1 → (rule value : Rec → ℕ) → Stops s at (wanted kind number rule value) 40
+module _ (s : List ℕ) (at kind number : ℕ) (w : Option Span) (e : w ≡ found_in kind number (head_at s at)) where
+  pub item_missing : w ≡ None → kind ≤ 1 → (rule value : Rec → ℕ) → Stops s at (wanted kind number rule value) 40
   item_missing q small rule value = Places.missing s at kind number rule value small (sym e ∙ q)
 
-  module _ (p l : ℕ) (q : w ≡ At p l) where
-    pub item_within : p + l ≤ length s
-    item_within = (Places.found_in_lem s at kind number p l (sym e ∙ q)).1
+  module _ (c : Span) (q : w ≡ Some c) where
+    pub item_within : c.at + c.len ≤ length s
+    item_within = (Places.found_in_lem s at kind number c.at c.len (sym e ∙ q)).1
 
-    pub item_fits : length s < 2 ^ 64 → Fits w64 (p + l)
+    pub item_fits : length s < 2 ^ 64 → Fits w64 (c.at + c.len)
     item_fits h = record { fits = omega (arith, item_within) }
 
-    module _ (low high x : ℕ) (k : x ≡ number_rule s low high (rec 0 0 0 0 p l)) where
-      pub number_breaks : 0 < x → Stops s at (wanted kind number (number_rule s low high) (number_of s)) x
-      number_breaks h =
-          Places.broken s at kind number p l (sym e ∙ q) (number_rule s low high) x h (λ v. Places.number_bare s low high kind number 0 v p l ∙ sym k)
+    module _ (low high : ℕ) where
+      pub number_breaks : (x : Refusal) → reason.number_of x ≡ number_rule s low high (rec 0 0 0 0 c.at c.len) → Stops s at (wanted kind number (number_rule s low high) (number_of s)) (reason.number_of x)
+      number_breaks x k =
+          Places.broken s at kind number c.at c.len (sym e ∙ q) (number_rule s low high) (reason.number_of x) (number_some x) (λ v. Places.number_bare s low high kind number 0 v c.at c.len ∙ sym k)
 
-      pub number_keeps : x ≤ 0 → (v : ℕ) → v ≡ value_at s p l → Goes s at (wanted kind number (number_rule s low high) (number_of s)) v (p + l)
-      number_keeps h v f =
-          Places.taken s at kind number p l (sym e ∙ q) (number_rule s low high) (λ v. Places.number_none s low high kind number 0 v p l x k h) v f
+      pub number_keeps : 0 ≡ number_rule s low high (rec 0 0 0 0 c.at c.len) → (v : ℕ) → v ≡ value_at s c.at c.len
+          → Goes s at (wanted kind number (number_rule s low high) (number_of s)) v (c.at + c.len)
+      number_keeps k v f =
+          Places.taken s at kind number c.at c.len (sym e ∙ q) (number_rule s low high) (λ v. Places.number_bare s low high kind number 0 v c.at c.len ∙ sym k) v f
 
-    pub object_breaks : (l ≡ 4 → ⊥) → Stops s at (wanted kind number object_rule (number_of s)) 41
+    pub object_breaks : (c.len ≡ 4 → ⊥) → Stops s at (wanted kind number object_rule (number_of s)) 41
     unfolding object_rule
-    object_breaks h = Places.broken s at kind number p l (sym e ∙ q) object_rule 41 (omega arith) (λ v. rw (ne_eqb l 4 h))
+    object_breaks h = Places.broken s at kind number c.at c.len (sym e ∙ q) object_rule 41 (omega arith) (λ v. rw (ne_eqb c.len 4 h))
 
-    pub object_keeps : l ≡ 4 → (v : ℕ) → v ≡ value_at s p l → Goes s at (wanted kind number object_rule (number_of s)) v (p + l)
+    pub object_keeps : c.len ≡ 4 → (v : ℕ) → v ≡ value_at s c.at c.len → Goes s at (wanted kind number object_rule (number_of s)) v (c.at + c.len)
     unfolding object_rule
-    object_keeps h v f = Places.taken s at kind number p l (sym e ∙ q) object_rule (λ v. rw (eq-eqb l 4 h)) v f
+    object_keeps h v f = Places.taken s at kind number c.at c.len (sym e ∙ q) object_rule (λ v. rw (eq-eqb c.len 4 h)) v f
 
-    module _ (v : ℕ) (f : v ≡ value_at s p l) where
+    module _ (v : ℕ) (f : v ≡ value_at s c.at c.len) where
       pub device_breaks : (v / 4194304 ≡ 8 → ⊥) → Stops s at (wanted kind number (device_rule s) (number_of s)) 41
       unfolding device_rule
-      device_breaks h = Places.broken s at kind number p l (sym e ∙ q) (device_rule s) 41 (omega arith) (λ u. rw (← f, ne_eqb (v / 4194304) 8 h))
+      device_breaks h = Places.broken s at kind number c.at c.len (sym e ∙ q) (device_rule s) 41 (omega arith) (λ u. rw (← f, ne_eqb (v / 4194304) 8 h))
 
-      pub device_keeps : v / 4194304 ≡ 8 → Goes s at (wanted kind number (device_rule s) (number_of s)) v (p + l)
+      pub device_keeps : v / 4194304 ≡ 8 → Goes s at (wanted kind number (device_rule s) (number_of s)) v (c.at + c.len)
       unfolding device_rule
-      device_keeps h = Places.taken s at kind number p l (sym e ∙ q) (device_rule s) (λ u. rw (← f, eq-eqb (v / 4194304) 8 h)) v f
+      device_keeps h = Places.taken s at kind number c.at c.len (sym e ∙ q) (device_rule s) (λ u. rw (← f, eq-eqb (v / 4194304) 8 h)) v f
 
 -- the octets are below 256, as a lent slice says it
-pub device_four : (s : List ℕ) (at p l : ℕ) (w : Found) → w ≡ At p l → w ≡ found_in 0 12 (head_at s at) → ((i : ℕ) → Fits w8 (oct s i)) → l ≤ 4
-device_four s at p l w q e os = omega (arith, Places.object_four s (λ i. (os i).fits) at p l (sym e ∙ q))
+pub device_four : (s : List ℕ) (at : ℕ) (c : Span) (w : Option Span) → w ≡ Some c → w ≡ found_in 0 12 (head_at s at) → ((i : ℕ) → Fits w8 (oct s i)) → c.len ≤ 4
+device_four s at c w q e os = omega (arith, Places.object_four s (λ i. (os i).fits) at c.at c.len (sym e ∙ q))
 
 -- whether an optional number is there
-module _ (s : List ℕ) (at number : ℕ) (w : Found) (e : w ≡ found_in 1 number (head_at s at)) where
-  pub present_here : (p l : ℕ) → w ≡ At p l → Presence s at number true
-  present_here p l q = Places.here s at number p l (sym e ∙ q)
-
-  pub present_not : w ≡ Missing → Presence s at number false
-  present_not q = Places.absent s at number (sym e ∙ q)
+pub presents : (s : List ℕ) (at number : ℕ) (w : Option Span) → w ≡ found_in 1 number (head_at s at) → Presence s at number (is_some w)
+presents s at number None e = Places.absent s at number (sym e)
+presents s at number (Some c) e = Places.here s at number c.at c.len (sym e)
 
 -- an optional number, b being whether it is there
 module _ (s : List ℕ) (at number low high : ℕ) (next : Bool → ℕ → List Rec → Answer) (b : Bool) where
@@ -201,46 +183,48 @@ module _ (s : List ℕ) (at number low high : ℕ) (next : Bool → ℕ → List
   unfolding optional_number
   option_none e here r h rs w = rw (← here rs w, e) (h rs w)
 
-  module _ (e : b ≡ true) (here : Presence s at number b) (q : Part) (says : PartSays s at (context_number s number low high) q) where
-    pub option_is : (v to : ℕ) → q ≡ Part.Is v to → (r : Answer) → Answers s to (next true v) r → Answers s at (optional_number s number low high next) r
+  module _ (e : b ≡ true) (here : Presence s at number b) where
+    pub option_is : (v to : ℕ) → Goes s at (context_number s number low high) v to → (r : Answer) → Answers s to (next true v) r → Answers s at (optional_number s number low high next) r
     unfolding optional_number
-    option_is v to f r h rs w = rw (← here rs w, e) (Places.part_goes s at (context_number s number low high) q says f (next true) r h rs w)
+    option_is v to goes r h rs w = rw (← here rs w, e) (goes (next true) r h rs w)
 
-    pub option_not : (x : ℕ) → q ≡ Part.Refused x → Answers s at (optional_number s number low high next) (Refused x)
+    pub option_not : (x : ℕ) → Stops s at (context_number s number low high) x → Answers s at (optional_number s number low high next) (Err x)
     unfolding optional_number
-    option_not x f rs w = rw (← here rs w, e) (Places.part_stops s at (context_number s number low high) q says f (next true) rs w)
+    option_not x stops rs w = rw (← here rs w, e) (stops (next true) rs w)
 
 pub ruleset options = (option_is, option_not, option_none)
 
--- ---- a group, t being the head at the place and o the end of the item there
-module _ (s : List ℕ) (at : ℕ) (t : Tag) (e : t ≡ head_at s at) where
-  pub group_item : (number k n v p l : ℕ) → t ≡ Item k n v p l → Stops s at (group number) 40
-  group_item number k n v p l q = Places.no_group s at number (Item k n v p l) (sym e ∙ q) tt
+-- ---- a group, t being the head at the place
+pub group_refused : (s : List ℕ) (at number : ℕ) (t : Result tag.Tag Refusal) → tag_of t ≡ head_at s at → ((u : tag.Tag) → t ≡ Ok u → ⊥) → Stops s at (group number) 40
+group_refused s at number (Ok u) e h = absurd (h u refl)
+group_refused s at number (Err x) e h = Places.no_group s at number (Tag.Refused (reason.number_of x)) (sym e) tt
 
-  pub group_closing : (number n p : ℕ) → t ≡ Closing n p → Stops s at (group number) 40
-  group_closing number n p q = Places.no_group s at number (Closing n p) (sym e ∙ q) tt
+pub group_none : (s : List ℕ) (at number : ℕ) (t : tag.Tag) → seen_as t ≡ head_at s at → ((n p : ℕ) → t ≡ tag.TheVariants.Opening n p → ⊥) → Stops s at (group number) 40
+group_none s at number (tag.TheVariants.Item k n v p l) e h = Places.no_group s at number (Item (kind_of k) n v p l) (sym e) tt
+group_none s at number (tag.TheVariants.Opening n p) e h = absurd (h n p refl)
+group_none s at number (tag.TheVariants.Closing n p) e h = Places.no_group s at number (Closing n p) (sym e) tt
 
-  pub group_refused : (number x : ℕ) → t ≡ Tag.Refused x → Stops s at (group number) 40
-  group_refused number x q = Places.no_group s at number (Tag.Refused x) (sym e ∙ q) tt
+module _ (s : List ℕ) (at : ℕ) (t : tag.Tag) (e : seen_as t ≡ head_at s at) (n p : ℕ) (q : t ≡ tag.TheVariants.Opening n p) where
+  here_opens : head_at s at ≡ Opening n p
+  here_opens = sym e ∙ ap seen_as q
 
-  module _ (n p : ℕ) (q : t ≡ Opening n p) where
-    pub group_another : (number : ℕ) → (n ≡ number → ⊥) → Stops s at (group number) 40
-    group_another number h = Places.no_group s at number (Opening n p) (sym e ∙ q) h
+  pub group_another : (number : ℕ) → (n ≡ number → ⊥) → Stops s at (group number) 40
+  group_another number h = Places.no_group s at number (Opening n p) here_opens h
 
-    module _ (o : One) (f : o ≡ end_of (item_at s at)) where
-      pub group_some : (to : ℕ) → o ≡ One.Next to → 1 ≤ to
-      group_some to h = omega (arith, Places.group_on s at n p to (sym e ∙ q) (sym h ∙ f))
+  module _ (to : ℕ) (f : One.Next to ≡ end_of (item_at s at)) where
+    pub group_some : 1 ≤ to
+    group_some = omega (arith, Places.group_on s at n p to here_opens f)
 
-      pub group_room : (to : ℕ) → o ≡ One.Next to → p ≤ to - 1
-      group_room to h = omega (arith, Places.group_on s at n p to (sym e ∙ q) (sym h ∙ f))
+    pub group_room : p ≤ to - 1
+    group_room = omega (arith, Places.group_on s at n p to here_opens f)
 
-      pub group_read : (number to : ℕ) → n ≡ number → o ≡ One.Next to → Goes s at (group number) (record { at = p; len = to - 1 - p }) to
-      group_read number to own h = Places.group_goes s at n p number (sym e ∙ q) own to (sym h ∙ f)
+    pub group_read : (number : ℕ) → n ≡ number → Goes s at (group number) (record { at = p; len = to - 1 - p }) to
+    group_read number own = Places.group_goes s at n p number here_opens own to f
 
-      pub group_cut : (number x : ℕ) → n ≡ number → o ≡ One.Refused x → Stops s at (group number) x
-      group_cut number x own h = Places.group_stops s at n p number (sym e ∙ q) own x (sym h ∙ f)
+  pub group_cut : (x : ℕ) → One.Refused x ≡ end_of (item_at s at) → (number : ℕ) → n ≡ number → Stops s at (group number) x
+  group_cut x f number own = Places.group_stops s at n p number here_opens own x f
 
-pub ruleset groups = (group_item, group_closing, group_refused, group_another, group_read, group_cut)
+pub ruleset groups = (group_another, group_read, group_cut)
 
 -- ---- the layouts by kind and choice
 module _ (s : List ℕ) where
@@ -253,67 +237,62 @@ module _ (s : List ℕ) where
   unfolding who_is
   who_any b e here r h rs w = rw (← here rs w, e) (h rs w)
 
-  module _ (choice : ℕ) where
-    pub layout_read : choice ≡ 12 → (r : Answer) → Answers s 0 (read_property s) r → Answers s 0 (layout_for 0 choice s) r
+  module _ (kind choice : ℕ) where
+    pub layout_read : kind ≡ 0 → choice ≡ 12 → (r : Answer) → Answers s 0 (read_property s) r → Answers s 0 (layout_for kind choice s) r
     unfolding layout_for
-    layout_read e r h rs w = rw e (h rs w)
+    layout_read e f r h rs w = rw (e, f) (h rs w)
 
-    pub layout_write : choice ≡ 15 → (r : Answer) → Answers s 0 (write_property s) r → Answers s 0 (layout_for 0 choice s) r
+    pub layout_ack : kind ≡ 3 → choice ≡ 12 → (r : Answer) → Answers s 0 (read_property_ack s) r → Answers s 0 (layout_for kind choice s) r
     unfolding layout_for
-    layout_write e r h rs w = rw e (h rs w)
+    layout_ack e f r h rs w = rw (e, f) (h rs w)
 
-    pub layout_who : choice ≡ 8 → (r : Answer) → Answers s 0 (who_is s) r → Answers s 0 (layout_for 1 choice s) r
+    pub layout_write : kind ≡ 0 → choice ≡ 15 → (r : Answer) → Answers s 0 (write_property s) r → Answers s 0 (layout_for kind choice s) r
     unfolding layout_for
-    layout_who e r h rs w = rw e (h rs w)
+    layout_write e f r h rs w = rw (e, f) (h rs w)
 
-    pub layout_am : choice ≡ 0 → (r : Answer) → Answers s 0 (i_am s) r → Answers s 0 (layout_for 1 choice s) r
+    pub layout_who : kind ≡ 1 → choice ≡ 8 → (r : Answer) → Answers s 0 (who_is s) r → Answers s 0 (layout_for kind choice s) r
     unfolding layout_for
-    layout_am e r h rs w = rw e (h rs w)
+    layout_who e f r h rs w = rw (e, f) (h rs w)
 
-    pub layout_error : choice ≡ 12 → (r : Answer) → Answers s 0 (error_of s) r → Answers s 0 (layout_for 5 choice s) r
+    pub layout_am : kind ≡ 1 → choice ≡ 0 → (r : Answer) → Answers s 0 (i_am s) r → Answers s 0 (layout_for kind choice s) r
     unfolding layout_for
-    layout_error e r h rs w = rw e (h rs w)
+    layout_am e f r h rs w = rw (e, f) (h rs w)
 
-    pub layout_fault : choice ≡ 15 → (r : Answer) → Answers s 0 (error_of s) r → Answers s 0 (layout_for 5 choice s) r
+    pub layout_error : kind ≡ 5 → (choice ≡ 12) ⊎ (choice ≡ 15) → (r : Answer) → Answers s 0 (error_of s) r → Answers s 0 (layout_for kind choice s) r
     unfolding layout_for
-    layout_fault e r h rs w = rw e (h rs w)
+    layout_error e (inl f) r h rs w = rw (e, f) (h rs w)
+    layout_error e (inr f) r h rs w = rw (e, f) (h rs w)
 
-    pub none_confirmed : (choice ≡ 12 → ⊥) → (choice ≡ 15 → ⊥) → Answers s 0 (layout_for 0 choice s) (Refused 43)
+    pub none_confirmed : kind ≡ 0 → (choice ≡ 12 → ⊥) → (choice ≡ 15 → ⊥) → Answers s 0 (layout_for kind choice s) (Err 43)
     unfolding layout_for
-    none_confirmed a b rs w = rw (ne_eqb choice 12 a, ne_eqb choice 15 b)
+    none_confirmed e a b rs w = rw (e, ne_eqb choice 12 a, ne_eqb choice 15 b)
 
-    pub none_unconfirmed : (choice ≡ 8 → ⊥) → (choice ≡ 0 → ⊥) → Answers s 0 (layout_for 1 choice s) (Refused 43)
+    pub none_unconfirmed : kind ≡ 1 → (choice ≡ 8 → ⊥) → (choice ≡ 0 → ⊥) → Answers s 0 (layout_for kind choice s) (Err 43)
     unfolding layout_for
-    none_unconfirmed a b rs w = rw (ne_eqb choice 8 a, ne_eqb choice 0 b)
+    none_unconfirmed e a b rs w = rw (e, ne_eqb choice 8 a, ne_eqb choice 0 b)
 
-    pub none_error : (choice ≡ 12 → ⊥) → (choice ≡ 15 → ⊥) → Answers s 0 (layout_for 5 choice s) (Refused 43)
+    pub none_ack : kind ≡ 3 → (choice ≡ 12 → ⊥) → Answers s 0 (layout_for kind choice s) (Err 43)
     unfolding layout_for
-    none_error a b rs w = rw (ne_eqb choice 12 a, ne_eqb choice 15 b)
+    none_ack e a rs w = rw (e, ne_eqb choice 12 a)
 
-    module _ (kind : ℕ) where
-      pub layout_of : (k : ℕ) → kind ≡ k → (r : Answer) → Answers s 0 (layout_for k choice s) r → Answers s 0 (layout_for kind choice s) r
-      layout_of k e r h rs w = rw e (h rs w)
+    pub none_error : kind ≡ 5 → (choice ≡ 12 → ⊥) → (choice ≡ 15 → ⊥) → Answers s 0 (layout_for kind choice s) (Err 43)
+    unfolding layout_for
+    none_error e a b rs w = rw (e, ne_eqb choice 12 a, ne_eqb choice 15 b)
 
-      pub layout_ack : kind ≡ 3 → choice ≡ 12 → (r : Answer) → Answers s 0 (read_property_ack s) r → Answers s 0 (layout_for kind choice s) r
-      unfolding layout_for
-      layout_ack e f r h rs w = rw (e, f) (h rs w)
+    pub none_kind : (kind ≡ 0 → ⊥) → (kind ≡ 1 → ⊥) → (kind ≡ 3 → ⊥) → (kind ≡ 5 → ⊥) → Answers s 0 (layout_for kind choice s) (Err 43)
+    unfolding layout_for
+    none_kind a b c d rs w = rw (ne_eqb kind 0 a, ne_eqb kind 1 b, ne_eqb kind 3 c, ne_eqb kind 5 d)
 
-      pub none_ack : kind ≡ 3 → (choice ≡ 12 → ⊥) → Answers s 0 (layout_for kind choice s) (Refused 43)
-      unfolding layout_for
-      none_ack e f rs w = rw (e, ne_eqb choice 12 f)
+    -- the whole reading, x being the answer of listing the items, whatever it was lent: 61 is taken as good
+    module _ (area later : List ℕ) (x : Result ℕ unlisted.Unlisted) (w : Listed s area (tally_of x) later) where
+      pub read_listed : (n : ℕ) → x ≡ Ok n → (r : Answer) → Answers s 0 (layout_for kind choice s) r → r ≡ read_service kind choice s
+      read_listed n q r h = Places.read_good kind choice s n (items_say s area later (tally_of x) w (ap tally_of q)).0 r h
 
-      pub none_kind : (kind ≡ 0 → ⊥) → (kind ≡ 1 → ⊥) → (kind ≡ 3 → ⊥) → (kind ≡ 5 → ⊥) → Answers s 0 (layout_for kind choice s) (Refused 43)
-      unfolding layout_for
-      none_kind a b c d rs w = rw (ne_eqb kind 0 a, ne_eqb kind 1 b, ne_eqb kind 3 c, ne_eqb kind 5 d)
+      module _ (u : unlisted.Unlisted) (e : x ≡ Err u) where
+        pub read_small : (n : ℕ) → u ≡ unlisted.TheVariants.Small n → (r : Answer) → Answers s 0 (layout_for kind choice s) r → r ≡ read_service kind choice s
+        read_small n q r h = Places.read_good kind choice s n (small_says s area later (tally_of x) w (rw (e, q))).0 r h
 
-      -- the whole reading, x being the answer of listing the items, whatever it was lent
-      module _ (area later : List ℕ) (x : Tally) (w : Listed s area x later) where
-        pub read_items : (n : ℕ) → x ≡ Items n → (r : Answer) → Answers s 0 (layout_for kind choice s) r → r ≡ read_service kind choice s
-        read_items n q r h = Places.read_good kind choice s n (items_say s area later x w q).0 r h
+        pub read_not : (y : Refusal) → u ≡ unlisted.TheVariants.Refused y → Err (reason.number_of y) ≡ read_service kind choice s
+        read_not y q = Places.read_bad kind choice s (reason.number_of y) (refused_says s area later (tally_of x) w (rw (e, q)))
 
-        -- 61 taken as good
-        pub read_small : (n : ℕ) → x ≡ Small n → (r : Answer) → Answers s 0 (layout_for kind choice s) r → r ≡ read_service kind choice s
-        read_small n q r h = Places.read_good kind choice s n (small_says s area later x w q).0 r h
-
-        pub read_not : (n : ℕ) → x ≡ Tally.Refused n → Refused n ≡ read_service kind choice s
-        read_not n q = Places.read_bad kind choice s n (refused_says s area later x w q)
+pub ruleset layout_rows = (layout_read, layout_ack, layout_write, layout_who, layout_am, layout_error, none_confirmed, none_unconfirmed, none_ack, none_error, none_kind)

@@ -1,4 +1,5 @@
 -- A layout that stands somewhere is read.
+use Rattle.std.specs.Prelude.{Ok}
 use Prim.Native.Nat.{ℕ, ◌+◌, ◌*◌, ◌%◌, ◌≤◌}
 use native.Mathlib.Omega.{arith}
 use mathlib.Core.Path.{◌≡◌, refl, sym, subst, ◌∙◌}
@@ -16,7 +17,6 @@ use Rattle.services.specs.Reading as reading
 use Rattle.services.specs.Layout.{Message, Pointed, shortest, optional, pointed, valued, things_of_message, Pointing, Ranges, WholeValue}
 use Rattle.services.specs.Layout.Message.{read_property, read_property_ack, write_property, who_is, i_am, error_of}
 use Rattle.services.specs.Shows.{For, message_of}
-use Rattle.services.specs.declared.Answer.TheVariants.{Good}
 use Rattle.services.specs.declared.Service.{Service}
 use Rattle.services.specs.declared.Service.TheVariants.{ReadProperty, ReadPropertyAck, WriteProperty, WhoIs, IAm, Error}
 use Rattle.services.proofs.Things.{Here, contexts, applications, here_next, number_reads, option_reads, value_cut, group_reads, group_left, last_reads}
@@ -35,7 +35,7 @@ value_of (error_of class code) = []
 -- the service that is read, and that it shows the message
 pub record Reads (kind choice : ℕ) (o : List ℕ) (m : Message) : Type 0 where
   pub service : Service
-  pub read : layout_for kind choice o (records_from 0 0 (things_of_message m)) ≡ Good service
+  pub read : layout_for kind choice o (records_from 0 0 (things_of_message m)) ≡ Ok service
   pub stands : ValueStands o service (value_of m)
   pub shown : message_of service (value_of m) ≡ m
 

@@ -1,14 +1,16 @@
 -- What the layouts share: a part of a service is read off the records of the parameters, left to right, and the rest goes on.
 -- "40: the next item is missing or not of the wanted kind and number. 41: wrong length, a longer form than needed, or out of range."
-use Rattle.std.specs.Prelude.{ℕ, ◌-◌, ◌/◌, ◌%◌, Bool, true, false, List, [], ◌∷◌, ltb, eqb}
+use Rattle.std.specs.Prelude.{ℕ, ◌-◌, ◌/◌, ◌%◌, Bool, true, false, List, [], ◌∷◌, ltb, eqb, Result, Ok, Err}
 use Rattle.octets.specs.Choice.{pick, both, non}
 use Rattle.octets.specs.Reading.{oct, refuse}
 use Rattle.octets.specs.Numbers.{value_at, long_form}
 use Rattle.items.specs.Records.{Rec}
-use Rattle.services.specs.declared.Answer.{Answer}
-use Rattle.services.specs.declared.Answer.TheVariants.{Good, Refused}
 use Rattle.services.specs.declared.Service.{Service}
 use Rattle.services.specs.declared.Span.{Span}
+
+-- what reading a service answers: the service with its own fields, or the number of the refusal
+abbrev pub Answer : Type 0
+Answer = Result Service ℕ
 
 -- how reading goes on with what a part gave and the records after it
 abbrev pub Then : Type 0
@@ -25,10 +27,10 @@ present number (r ∷ rest) = is 1 number r
 
 -- the wanted item, judged, with its value
 unfoldable pub wanted : ℕ → ℕ → (Rec → ℕ) → (Rec → ℕ) → Then → List Rec → Answer
-wanted kind number rule value next [] = Refused 40
+wanted kind number rule value next [] = Err 40
 wanted kind number rule value next (r ∷ rest) =
-    refuse (non (is kind number r)) (Refused 40)
-    (refuse (ltb 0 (rule r)) (Refused (rule r))
+    refuse (non (is kind number r)) (Err 40)
+    (refuse (ltb 0 (rule r)) (Err (rule r))
     (next (value r) rest))
 
 -- the number that an item's contents are
@@ -74,17 +76,17 @@ optional_number s number low high next rs = pick (present number rs) (context_nu
 
 -- the records after the closing of the group that is open, and the place of that closing: the first of the depth outside it
 unfoldable pub after_group : (ℕ → List Rec → Answer) → List Rec → Answer
-after_group next [] = Refused 40
+after_group next [] = Err 40
 after_group next (r ∷ rest) = pick (both (eqb r.kind 3) (eqb r.depth 0)) (next r.place rest) (after_group next rest)
 
 -- "a group 3, the value, possibly empty": the octets between the opening's tag and the closing's, which is one octet
 unfoldable pub group : ℕ → (Span → List Rec → Answer) → List Rec → Answer
-group number next [] = Refused 40
+group number next [] = Err 40
 group number next (r ∷ rest) =
-    refuse (non (is 2 number r)) (Refused 40)
+    refuse (non (is 2 number r)) (Err 40)
     (after_group (λ end. next (record { at = r.place; len = end - 1 - r.place })) rest)
 
 -- 42: "an item after the last"
 unfoldable pub last : Service → List Rec → Answer
-last v [] = Good v
-last v (r ∷ rest) = Refused 42
+last v [] = Ok v
+last v (r ∷ rest) = Err 42

@@ -1,12 +1,10 @@
 -- The reading of a service's parameters: "Tag refusals 30 to 39 come before 43 and 40 to 42."
-use Rattle.std.specs.Prelude.{ℕ, Bool, true, false, List, eqb}
+use Rattle.std.specs.Prelude.{ℕ, Bool, true, false, List, eqb, Err}
 use Rattle.octets.specs.Choice.{pick, both}
 use Rattle.items.specs.Records.{Rec}
 use Rattle.items.specs.Reading.{Out, items_of}
 use Rattle.items.specs.Reading.Out.{good, bad}
-use Rattle.services.specs.Parts.{wanted, present, number_of, any_number, type_of, instance_of, context_number, application_number, context_object, optional_number, group, last}
-use Rattle.services.specs.declared.Answer.{Answer}
-use Rattle.services.specs.declared.Answer.TheVariants.{Refused}
+use Rattle.services.specs.Parts.{Answer, wanted, present, number_of, any_number, type_of, instance_of, context_number, application_number, context_object, optional_number, group, last}
 use Rattle.services.specs.declared.Service.TheVariants.{ReadProperty, ReadPropertyAck, WriteProperty, WhoIs, IAm, Error}
 use Rattle.services.specs.declared.Target.{Target}
 
@@ -78,11 +76,11 @@ layout_for kind choice s rs =
     (pick (both (eqb kind 1) (eqb choice 0)) (i_am s rs)
     (pick (both (eqb kind 5) (eqb choice 12)) (error_of s rs)
     (pick (both (eqb kind 5) (eqb choice 15)) (error_of s rs)
-    (Refused 43)))))))
+    (Err 43)))))))
 
 abbrev pub after_tags : (List Rec → Answer) → Out → Answer
 after_tags f (good rs end) = f rs
-after_tags f (bad x) = Refused x
+after_tags f (bad x) = Err x
 
 unfoldable pub read_service : ℕ → ℕ → List ℕ → Answer
 read_service kind choice s = after_tags (layout_for kind choice s) (items_of s)

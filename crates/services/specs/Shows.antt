@@ -1,11 +1,10 @@
 -- Which message a service that was read shows, and "accepted exactly when": what reading and layout have to do with each other.
-use Rattle.std.specs.Prelude.{ℕ, ◌≡◌, ◌⊎◌, List, [], take, drop}
+use Rattle.std.specs.Prelude.{ℕ, ◌≡◌, ◌⊎◌, List, [], take, drop, Ok}
 use Rattle.tags.specs.Layout.{Thing}
 use Rattle.items.specs.Grammar.{Reads}
 use Rattle.services.specs.Reading.{read_service}
 use Rattle.services.specs.Layout.{Pointed, Message, Valid}
 use Rattle.services.specs.Layout.Message.{read_property, read_property_ack, write_property, who_is, i_am, error_of}
-use Rattle.services.specs.declared.Answer.TheVariants.{Good}
 use Rattle.services.specs.declared.Service.{Service}
 use Rattle.services.specs.declared.Service.TheVariants.{ReadProperty, ReadPropertyAck, WriteProperty, WhoIs, IAm, Error}
 use Rattle.services.specs.declared.Target.{Target}
@@ -48,7 +47,7 @@ ValueReads o (Error f) ts = ts ≡ []
 -- the reading of the octets, for this kind and choice, accepts and gives a service that shows the message
 pub record Shows (kind choice : ℕ) (o : List ℕ) (m : Message) : Type 0 where
   pub service : Service
-  pub read : read_service kind choice o ≡ Good service
+  pub read : read_service kind choice o ≡ Ok service
   pub value : List Thing
   pub items : ValueReads o service value
   pub shown : message_of service value ≡ m

@@ -6,12 +6,15 @@ mod parts;
 mod property;
 
 ghost use Rattle.std.specs.Prelude.{◌≡◌};
+ghost use Rattle.octets.specs.Refusal.{numbered};
 ghost use Rattle.services.specs.Reading.{layout_for, read_service};
 ghost use Rattle.services.specs.Places.{Answers};
 
-use items::Tally;
+use items::Unlisted;
+use octets::Refusal;
 
 // What ReadProperty and WriteProperty point at: an object, a property and, where `indexed`, an array index (0 where it is absent).
+// Stays: (a) a flag with its value beside it: service_writer::write takes every index of an absent one, and demands `ServicesReadBack` speaks of each.
 #[derive(Clone, Copy)]
 pub struct Target {
     pub object: u16,
@@ -35,6 +38,7 @@ pub struct ReadAck {
 }
 
 // `ranked`: the priority is present.
+// Stays: (a) a flag with its value beside it, as in Target: `ServicesReadBack` speaks of every priority of an absent one.
 #[derive(Clone, Copy)]
 pub struct WriteRequest {
     pub target: Target,
@@ -44,6 +48,7 @@ pub struct WriteRequest {
 }
 
 // `limited`: both limits are present.
+// Stays: (a) a flag with its values beside it, as in Target: `ServicesReadBack` speaks of all limits of an absent pair.
 #[derive(Clone, Copy)]
 pub struct WhoIs {
     pub limited: bool,
@@ -75,81 +80,29 @@ pub enum Service {
     Error(Fault),
 }
 
-// What reading a service answers: the service with its own fields, or the number of the refusal.
-#[derive(Clone, Copy)]
-pub enum Answer {
-    Good(Service),
-    Refused(u8),
-}
-
 // Reads the parameters of a PDU of this kind (0 confirmed request, 1 unconfirmed, 3 complex ack, 5 error) and choice.
-pub fn read(kind: u8, choice: u8, s: &[u8]) -> Answer
-    ensures { result ≡ read_service kind choice s.now }
+pub fn read(kind: u8, choice: u8, s: &[u8]) -> Result<Service, Refusal>
+    ensures { numbered result ≡ read_service kind choice s.now }
 {
-    let mut none = [0u8; 0];
-    let c = items::list(s, &mut none);
-    match c {
-        Tally::Items(_) => layout(kind, choice, s),
+    match items::list(s, &mut []) {
+        Ok(_) => layout(kind, choice, s),
         // 61 is as good: every tag was judged, and no octets were lent for the records.
-        Tally::Small(_) => layout(kind, choice, s),
-        Tally::Refused(x) => Answer::Refused(x),
+        Err(Unlisted::Small(_)) => layout(kind, choice, s),
+        Err(Unlisted::Refused(x)) => Err(x),
     }
 }
 
 // The layout for the kind and choice, or 43.
-fn layout(kind: u8, choice: u8, s: &[u8]) -> Answer
-    ensures { Answers s.now 0 (layout_for kind choice s.now) result }
+fn layout(kind: u8, choice: u8, s: &[u8]) -> Result<Service, Refusal>
+    ensures { Answers s.now 0 (layout_for kind choice s.now) (numbered result) }
 {
-    if kind == 0 {
-        return confirmed(choice, s);
+    match (kind, choice) {
+        (0, 12) => property::read_property(s),
+        (3, 12) => property::read_property_ack(s),
+        (0, 15) => property::write_property(s),
+        (1, 8) => others::who_is(s),
+        (1, 0) => others::i_am(s),
+        (5, 12 | 15) => others::error_of(s),
+        _ => Err(Refusal::UnknownChoice),
     }
-    if kind == 1 {
-        return unconfirmed(choice, s);
-    }
-    if kind == 3 {
-        if choice == 12 {
-            return property::read_property_ack(s);
-        }
-        return Answer::Refused(43);
-    }
-    if kind == 5 {
-        return error(choice, s);
-    }
-    Answer::Refused(43)
-}
-
-fn confirmed(choice: u8, s: &[u8]) -> Answer
-    ensures { Answers s.now 0 (layout_for 0 choice s.now) result }
-{
-    if choice == 12 {
-        return property::read_property(s);
-    }
-    if choice == 15 {
-        return property::write_property(s);
-    }
-    Answer::Refused(43)
-}
-
-fn unconfirmed(choice: u8, s: &[u8]) -> Answer
-    ensures { Answers s.now 0 (layout_for 1 choice s.now) result }
-{
-    if choice == 8 {
-        return others::who_is(s);
-    }
-    if choice == 0 {
-        return others::i_am(s);
-    }
-    Answer::Refused(43)
-}
-
-fn error(choice: u8, s: &[u8]) -> Answer
-    ensures { Answers s.now 0 (layout_for 5 choice s.now) result }
-{
-    if choice == 12 {
-        return others::error_of(s);
-    }
-    if choice == 15 {
-        return others::error_of(s);
-    }
-    Answer::Refused(43)
 }

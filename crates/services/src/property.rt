@@ -1,113 +1,61 @@
 // ReadProperty, its ack, and WriteProperty.
+ghost use Rattle.octets.specs.Refusal.{numbered};
 ghost use Rattle.services.specs.Reading.{target_parts, read_property, read_property_ack, write_property};
-ghost use Rattle.services.specs.Places.{Answers, TargetSays, index_part, priority_part};
+ghost use Rattle.services.specs.Places.{Answers, Says};
 
-use crate::parts::{
-    OptionalPart, Part, TargetPart, ValuePart, group, last, number, object, optional_number,
-};
-use crate::{Answer, ReadAck, Service, Span, Target, WriteRequest};
+use crate::parts::{group, last, number, object, optional_number};
+use crate::{ReadAck, Service, Target, WriteRequest};
+use octets::Refusal;
+use tags::Class;
 
 // Context 0 object, 1 property, optional 2 index.
-fn target(s: &[u8]) -> TargetPart
-    ensures { TargetSays s.now 0 (target_parts s.now) result }
+fn target(s: &[u8]) -> Result<(Target, usize), Refusal>
+    ensures { Says s.now 0 (target_parts s.now) (numbered result) }
 {
-    let o = object(s, 0);
-    match o {
-        Part::Is { value: v, next: a } => {
-            let p = number(s, a, 1, 1, 0, 4294967295);
-            match p {
-                Part::Is { value, next } => index(s, next, v, value),
-                Part::Refused(x) => TargetPart::Refused(x),
-            }
-        }
-        Part::Refused(x) => TargetPart::Refused(x),
-    }
+    let (v, next) = object(s, 0)?;
+    let (property, next) = number(s, next, Class::Context, 1, 0, u32::MAX)?;
+    let (index, next) = optional_number(s, next, 2, 0, u32::MAX)?;
+    let target = Target {
+        object: (v / 4194304) as u16,
+        instance: v % 4194304,
+        property,
+        indexed: index.is_some(),
+        index: index.unwrap_or(0),
+    };
+    Ok((target, next))
 }
 
-// The optional index, after the object v and the property.
-fn index(s: &[u8], at: usize, v: u32, property: u32) -> TargetPart
-    ensures { TargetSays s.now at (index_part s.now v property) result }
+pub fn read_property(s: &[u8]) -> Result<Service, Refusal>
+    ensures { Answers s.now 0 (read_property s.now) (numbered result) }
 {
-    let i = optional_number(s, at, 2, 0, 4294967295);
-    match i {
-        OptionalPart::Is { number: n, next } => TargetPart::Is {
-            target: Target {
-                object: (v / 4194304) as u16,
-                instance: v % 4194304,
-                property,
-                indexed: n.present,
-                index: n.value,
-            },
-            next,
-        },
-        OptionalPart::Refused(x) => TargetPart::Refused(x),
-    }
-}
-
-pub fn read_property(s: &[u8]) -> Answer
-    ensures { Answers s.now 0 (read_property s.now) result }
-{
-    let p = target(s);
-    match p {
-        TargetPart::Is { target: t, next } => last(s, next, Service::ReadProperty(t)),
-        TargetPart::Refused(x) => Answer::Refused(x),
-    }
+    let (target, next) = target(s)?;
+    last(s, next, Service::ReadProperty(target))
 }
 
 // The target, and a group 3, the value.
-pub fn read_property_ack(s: &[u8]) -> Answer
-    ensures { Answers s.now 0 (read_property_ack s.now) result }
+pub fn read_property_ack(s: &[u8]) -> Result<Service, Refusal>
+    ensures { Answers s.now 0 (read_property_ack s.now) (numbered result) }
 {
-    let p = target(s);
-    match p {
-        TargetPart::Is { target: t, next: a } => {
-            let g = group(s, a, 3);
-            match g {
-                ValuePart::Is { value, next } => last(
-                    s,
-                    next,
-                    Service::ReadPropertyAck(ReadAck { target: t, value }),
-                ),
-                ValuePart::Refused(x) => Answer::Refused(x),
-            }
-        }
-        TargetPart::Refused(x) => Answer::Refused(x),
-    }
+    let (target, next) = target(s)?;
+    let (value, next) = group(s, next, 3)?;
+    last(s, next, Service::ReadPropertyAck(ReadAck { target, value }))
 }
 
 // As the ack, with an optional priority.
-pub fn write_property(s: &[u8]) -> Answer
-    ensures { Answers s.now 0 (write_property s.now) result }
+pub fn write_property(s: &[u8]) -> Result<Service, Refusal>
+    ensures { Answers s.now 0 (write_property s.now) (numbered result) }
 {
-    let p = target(s);
-    match p {
-        TargetPart::Is { target: t, next: a } => {
-            let g = group(s, a, 3);
-            match g {
-                ValuePart::Is { value, next } => priority(s, next, t, value),
-                ValuePart::Refused(x) => Answer::Refused(x),
-            }
-        }
-        TargetPart::Refused(x) => Answer::Refused(x),
-    }
-}
-
-// The optional priority, after the target and the value.
-fn priority(s: &[u8], at: usize, target: Target, value: Span) -> Answer
-    ensures { Answers s.now at (priority_part s.now target value) result }
-{
-    let p = optional_number(s, at, 4, 1, 16);
-    match p {
-        OptionalPart::Is { number: n, next } => last(
-            s,
-            next,
-            Service::WriteProperty(WriteRequest {
-                target,
-                value,
-                ranked: n.present,
-                priority: n.value as u8,
-            }),
-        ),
-        OptionalPart::Refused(x) => Answer::Refused(x),
-    }
+    let (target, next) = target(s)?;
+    let (value, next) = group(s, next, 3)?;
+    let (priority, next) = optional_number(s, next, 4, 1, 16)?;
+    last(
+        s,
+        next,
+        Service::WriteProperty(WriteRequest {
+            target,
+            value,
+            ranked: priority.is_some(),
+            priority: priority.unwrap_or(0) as u8,
+        }),
+    )
 }

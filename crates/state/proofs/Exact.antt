@@ -16,11 +16,10 @@ use Rattle.frames.specs.declared.Link.{Link}
 use Rattle.rebuild.specs.declared.Slots.{Slots}
 use Rattle.collector.specs.declared.Collector.{Collector}
 use Rattle.collector.specs.Calls.{fresh_collector}
-use Rattle.state.specs.declared.Lifted.{Lifted}
 use Rattle.state.specs.Link.{link_of}
 use Rattle.state.specs.Edition.{edition_of}
 use Rattle.state.specs.Layout.{state_size, link_part, store_part, edition_at, state_octets, Fits}
-use Rattle.state.specs.Calls.{state_good, state_at, Loaded, loaded, load_of, Loads, lifted_as, lift_of}
+use Rattle.state.specs.Calls.{Lifted, state_good, state_at, Loaded, loaded, load_of, Loads, lifted_as, lift_of}
 use Rattle.state.proofs.Whole.{Shaped, fits_shaped, state_size_lem, state_back, state_fits, state_stands}
 
 -- the state's octets are loaded as it

@@ -1,12 +1,13 @@
 -- 59 of a state is 59 of its parts: the link, the edition, each slot by itself, no two open slots of one key, in the order in which they are asked.
 use Prim.Native.Nat.{ℕ, zero, suc, ◌≤◌, ◌<◌}
+use native.Mathlib.Omega.{arith}
 use mathlib.Core.Path.{◌≡◌, refl, sym, ap, ◌∙◌}
 use mathlib.Core.Bool.{Bool, true, false}
 use mathlib.Core.List.{List, map}
 use mathlib.Core.Option.{Option, none, some}
-use lib.Dec.{leb}
+use lib.Dec.{leb, eqb}
 use lib.ListN.{length}
-use borrow.Author.Tests.{le-leb, lt-leb, eq-eqb, ne_eqb}
+use borrow.Author.Tests.{le-leb, lt-leb, eq-eqb, eqb-true, ne_eqb}
 use Rattle.octets.specs.Choice.{pick, both, non, both_false, true_both, by_test}
 use Rattle.octets.specs.Reading.{oct}
 use Rattle.frames.specs.Step.{sound_of}
@@ -17,11 +18,10 @@ use Rattle.rebuild.specs.declared.Key.{Key}
 use Rattle.rebuild.specs.declared.Slots.{Slots}
 use Rattle.rebuild.proofs.Page.{key_laws}
 use Rattle.collector.specs.Calls.{slot_count}
-use Rattle.state.specs.declared.Silence.{Silence}
 use Rattle.state.specs.Link.{link_good, link_of}
 use Rattle.state.specs.Edition.{edition_good}
 use Rattle.state.specs.Layout.{state_size, edition_place, link_part, edition_at}
-use Rattle.state.specs.Calls.{good_at, slots_good, state_good, slot_at, slots_at, state_at, fair_of, judge_of, Stands}
+use Rattle.state.specs.Calls.{Silence, good_at, slots_good, state_good, slot_at, slots_at, state_at, fair_of, judge_of, Stands}
 use Rattle.state.specs.Judging.{link_fair, slot_fair, slots_fair, one_key, apart, apart_from, alone, pairs_fair, AllFair}
 
 -- ---- whether keys are the same does not depend on which is asked first
@@ -131,6 +131,12 @@ module _ (o : List ℕ) where
 
 -- for `search (rules, judge_ways)`
 pub ruleset judge_ways = (judge_sized, judge_link, judge_edition, judge_free, judge_fair, judge_unfair)
+
+-- what is judged good has a state's size
+pub judged_size : (o : List ℕ) → 0 ≡ judge_of o → length o ≡ state_size
+unfolding judge_of
+judged_size o e =
+    by_test (eqb (length o) state_size) (eqb-true (length o) state_size) (λ d. let z : ◌≡◌ {A = ℕ} 0 60 = rw d at e in absurd (omega arith))
 
 -- ---- for a silence: the number of a refusal, which is not 0, or 0 and the link
 module _ (o : List ℕ) (r : Silence) where

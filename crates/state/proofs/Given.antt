@@ -1,14 +1,17 @@
 -- Octets that are an address which a part of a header gives, asked where they stand: an absent one, all 0, and one that keeps the part's rules, 0 past its length.
 use Prim.Native.Nat.{ℕ, ◌+◌, ◌-◌, ◌*◌, ◌≤◌, ◌<◌}
 use native.Mathlib.Omega.{arith}
-use mathlib.Core.Path.{◌≡◌, refl, sym, ◌∙◌}
+use mathlib.Core.Path.{◌≡◌, refl, sym, ap, ◌∙◌}
 use mathlib.Core.Bool.{true, false}
 use mathlib.Core.List.{List}
 use lib.Bits.{bit_or}
 use lib.Dec.{eqb, ltb}
-use lib.ListN.{length, take, drop, length-drop, take-append-drop}
-use lib.Seq.{get_or-take, get_or-drop, take_all}
+use lib.ListN.{length, take, drop, get_or, length-drop, take-append-drop}
+use lib.Seq.{get_or-take, get_or-drop, take_all, length-take-le}
 use borrow.Author.Tests.{lt-ltb, ltb-true, ltb-false, eqb-true, eqb-false}
+use Rattle.std.specs.List.{list_all}
+use Rattle.std.proofs.lemmas.List.Elements.{All-get_or}
+use Rattle.std.proofs.lemmas.List.Sums.{AllPass-from_list_all}
 use Rattle.octets.specs.Choice.{given, not_so, by_test}
 use Rattle.octets.specs.Reading.{oct}
 use Rattle.npdu.specs.Address.{absent, part_address, gives}
@@ -25,11 +28,17 @@ use Rattle.state.proofs.Address.{run_zeros, address_none}
 abbrev pub Past : List ℕ → ℕ → ℕ → ℕ → Type 0
 Past s at len i = (k : ℕ) → len ≤ k → k < i → oct s (at + 4 + k) ≡ 0
 
-pub past_none : (s : List ℕ) (at len i : ℕ) → i ≡ len → Past s at len i
-past_none s at len i e k a b = absurd (omega arith)
-
-pub past_more : (s : List ℕ) (at len i : ℕ) → Past s at len i → oct s (at + 4 + i) ≡ 0 → Past s at len (i + 1)
-past_more s at len i p e k a b = by_test (eqb k i) (λ t. rw (eqb-true k i t) e) (λ f. let d = eqb-false k i f in p k a (omega arith))
+-- all of them, asked at once; l is the length
+pub past_rest : (s : List ℕ) (at len l : ℕ) → at + 11 ≤ length s → l ≡ len → list_all (λ (x : ℕ). eqb x 0) (take (at + 11 - (at + 4 + l)) (drop (at + 4 + l) s)) ≡ true → Past s at len 7
+past_rest s at len l h e z k a b =
+    let r = drop (at + 4 + l) s in
+    let n = at + 11 - (at + 4 + l) in
+    let i = k - len in
+    let j : i < n = omega arith in
+    let t : length (take n r) ≡ n = length-take-le n r (rw length-drop (omega arith)) in
+    let p : eqb (get_or (take n r) i 0) 0 ≡ true = All-get_or (λ (x : ℕ). eqb x 0 ≡ true) (take n r) i 0 (rw t j) (AllPass-from_list_all (λ (x : ℕ). eqb x 0) (take n r) z) in
+    let q : at + 4 + l + i ≡ at + 4 + k = omega arith in
+    sym (get_or-take n r i 0 j ∙ get_or-drop (at + 4 + l) s i 0 ∙ ap (oct s) q) ∙ eqb-true _ 0 p
 
 -- those past the first, in two numbers that overlap
 pub past_one : (s : List ℕ) (at x y : ℕ) → x ≡ four_at s (at + 5) → y ≡ four_at s (at + 7) → bit_or x y ≡ 0 → Past s at 1 7

@@ -4,19 +4,20 @@ use native.Mathlib.Omega.{arith}
 use mathlib.Core.Path.{◌≡◌, refl, sym, ap, subst, ◌∙◌}
 use mathlib.Core.Bool.{Bool, true}
 use mathlib.Core.List.{List, [], ◌∷◌, ◌++◌, append_assoc, append-nil}
-use lib.Dec.{lit<}
+use lib.Dec.{eqb}
 use lib.ListN.{length, get_or, take, drop, length-append, drop_of_length-le}
 use lib.Seq.{take_at, drop_at, take-suc, take-length, length-take-le}
-use Rattle.octets.specs.Choice.{both_true}
+use Rattle.octets.specs.Choice.{both_true, by_test}
 use Rattle.octets.specs.Every.{octets_part}
 use Rattle.octets.specs.Reading.{Octets}
 use Rattle.octets.specs.Splice.{splice, splice_nil, splice_then}
 use Rattle.rebuild.proofs.Seen.{blank}
 use Rattle.rebuild.specs.declared.Slot.{Slot}
+use Rattle.rebuild.specs.declared.Slots.{Slots}
 use Rattle.collector.specs.Calls.{slot_count}
 use Rattle.state.specs.Slot.{slot_size, slot_octets, SlotShaped, slot_good, slot_of}
 use Rattle.state.specs.Layout.{slots_place, slot_place, slots_size, state_size, slot_part, slots_octets, SlotsFit, SlotsShaped}
-use Rattle.state.specs.Calls.{good_at, slots_good, slot_at, slots_at}
+use Rattle.state.specs.Calls.{Lays, LaysSlots, good_at, slots_good, slot_at, slots_at}
 use Rattle.state.proofs.Parts.{cut_size, cut_by, cut_then, join}
 use Rattle.state.proofs.Slot.{fits_sized, slot_size_lem, slot_back, slot_stands, slot_fits}
 
@@ -118,17 +119,6 @@ module _ (area : List ℕ) (xs : List Slot) (size : length area ≡ state_size) 
       let t : take slot_count xs ≡ xs = subst (λ (k : ℕ). take k xs ≡ xs) four (take-length xs) in
       e ∙ ap (λ (l : List Slot). splice area slots_place (slots_octets l)) t
 
--- four of them
-pub slots_laid : (area : List ℕ) (xs : List Slot) {l₁ l₂ l₃ l₄ : List ℕ} → length area ≡ state_size → length xs ≡ slot_count → SlotsShaped xs
-    → l₁ ≡ splice area (slot_place 0) (slot_octets (get_or xs 0 blank)) → l₂ ≡ splice l₁ (slot_place 1) (slot_octets (get_or xs 1 blank))
-    → l₃ ≡ splice l₂ (slot_place 2) (slot_octets (get_or xs 2 blank)) → l₄ ≡ splice l₃ (slot_place 3) (slot_octets (get_or xs 3 blank))
-    → l₄ ≡ splice area slots_place (slots_octets xs)
-slots_laid area xs z f s e₁ e₂ e₃ e₄ =
-    let l₁ = slots_more area xs z f s 0 (lit< tt) (slots_none area xs z f s) e₁ in
-    let l₂ = slots_more area xs z f s 1 (lit< tt) l₁ e₂ in
-    let l₃ = slots_more area xs z f s 2 (lit< tt) l₂ e₃ in
-    slots_all area xs z f s (slots_more area xs z f s 3 (lit< tt) l₃ e₄)
-
 -- ---- a slot found by its place and end
 pub slot_found : (o : List ℕ) (i at : ℕ) (x : Slot) → at ≡ slot_place i → x ≡ slot_of (take (at + slot_size - at) (drop at o)) → x ≡ slot_at o i
 unfolding slot_at
@@ -137,3 +127,13 @@ slot_found o i at x p e = cut_by slot_of o slot_size p e
 pub good_found : (o : List ℕ) (i at : ℕ) (g : Bool) → at ≡ slot_place i → g ≡ slot_good (take (at + slot_size - at) (drop at o)) → g ≡ good_at o i
 unfolding good_at
 good_found o i at g p e = cut_by slot_good o slot_size p e
+
+-- ---- an area in which a part could not be laid holds no slots either, by the same number
+pub slots_barred : (t : Slots) {n at k : ℕ} {xs area later : List ℕ} → 1 ≤ n → Lays at k xs area n later → length t.slots ≡ slot_count → SlotsShaped t.slots → LaysSlots t later n later
+slots_barred t {n} {at} {k} {xs} {area} {later} some l four shaped =
+    by_test (eqb (length area) state_size)
+    (λ e. let z : n ≡ 0 = rw e at l.answer in absurd (omega arith))
+    (λ e.
+    let a : later ≡ area = rw e at l.after in
+    let f : n ≡ 60 = rw e at l.answer in
+    rw a (record { lays = record { answer = rw e f; after = rw e; long = slots_size_lem t.slots shaped four }; four = four; shaped = shaped }))

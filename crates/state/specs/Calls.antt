@@ -1,16 +1,20 @@
 -- The state that a lent area is, its edition, link and slots lifted, link and slots laid there, and a whole state saved there. "60, then 59": an area of another size is
 -- 60, octets that are no state's are 59.
-use Rattle.std.specs.Prelude.{ℕ, zero, suc, ◌≡◌, Bool, true, List, [], ◌∷◌, eqb, length}
+use Rattle.std.specs.Prelude.{ℕ, zero, suc, ◌≡◌, Bool, true, List, [], ◌∷◌, Result, Ok, Err, eqb, length}
+use Rattle.std.specs.Borrow.{Bor}
 use Rattle.octets.specs.Choice.{pick, both}
 use Rattle.octets.specs.Splice.{splice}
+use Rattle.octets.specs.Refusal.{number_of}
+use Rattle.octets.specs.declared.refusal.Refusal.{Refusal}
+use Rattle.octets.specs.declared.refusal.Refusal.TheVariants.{AreaSize}
+use Rattle.apdu.specs.declared.Edition.{Edition}
 use Rattle.apdu.specs.declared.Edition.TheVariants.{First}
 use Rattle.frames.specs.declared.Link.{Link}
 use Rattle.rebuild.specs.declared.Slot.{Slot}
 use Rattle.rebuild.specs.declared.Slots.{Slots}
 use Rattle.collector.specs.declared.Collector.{Collector}
 use Rattle.collector.specs.Calls.{fresh_collector, slot_count, sound, slots_of}
-use Rattle.state.specs.declared.Lifted.{Lifted}
-use Rattle.state.specs.declared.Silence.{Silence}
+use Rattle.state.specs.declared.Lifted as Code
 use Rattle.state.specs.Link.{link_size, link_octets, link_good, link_of}
 use Rattle.state.specs.Edition.{edition_good, edition_of}
 use Rattle.state.specs.Slot.{slot_good, slot_of}
@@ -68,17 +72,43 @@ fair_of o = both (state_good o) (sound (state_at o).receiver (slots_of (state_at
 unfoldable pub judge_of : List ℕ → ℕ
 judge_of o = pick (eqb (length o) state_size) (pick (fair_of o) 0 59) 60
 
+-- an area's octets where they are as many as a state's, or 60
+abbrev pub OfSize : List ℕ → Result (Bor (List ℕ)) Refusal → Type 0
+OfSize o (Ok a) = (a.now ≡ o) × (length o ≡ state_size)
+OfSize o (Err r) = (length o ≡ state_size → ⊥) × (r ≡ AreaSize)
+
+-- what a silence wants of a state: 60, 59 or 0 with the link
+pub record Silence : Type 0 where
+  pub refused : ℕ
+  pub link : Link
+
+-- an answer of the code as that; with a refusal it is the link of the fresh state of 1995
+abbrev pub silence_of : Result Link Refusal → Silence
+silence_of (Ok l) = record { refused = 0; link = l }
+silence_of (Err r) = record { refused = number_of r; link = (fresh_collector First).receiver.link }
+
 -- for a silence: that number, and with 0 the link; store and slots stay in their place
 pub record Stands (o : List ℕ) (r : Silence) : Type 0 where
   pub number : r.refused ≡ judge_of o
   pub link : judge_of o ≡ 0 → r.link ≡ link_of (link_part o)
 
 -- ---- lifting: edition, link and slots of what the area is loaded as; its frame store stays in its place
+pub record Lifted : Type 0 where
+  pub refused : ℕ
+  pub edition : Edition
+  pub link : Link
+  pub slots : Slots
+
 abbrev pub lifted_as : Loaded → Lifted
 lifted_as l = record { refused = l.refused; edition = l.state.edition; link = l.state.receiver.link; slots = l.state.slots }
 
 unfoldable pub lift_of : List ℕ → Lifted
 lift_of o = lifted_as (load_of o)
+
+-- an answer of the code as that
+abbrev pub lifted_of : Result Code.Lifted Refusal → Lifted
+lifted_of (Ok l) = record { refused = 0; edition = l.edition; link = l.link; slots = l.slots }
+lifted_of (Err r) = lifted_as (loaded (number_of r) (fresh_collector First))
 
 -- ---- laying a part of n octets over the one at its place: 0, or 60 and the area is as it was
 pub record Lays (at n : ℕ) (xs area : List ℕ) (r : ℕ) (later : List ℕ) : Type 0 where

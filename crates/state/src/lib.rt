@@ -7,14 +7,16 @@ mod saving;
 
 ghost use Rattle.std.specs.Prelude.{◌≡◌, ◌<◌, length};
 ghost use Rattle.collector.specs.Calls.{slot_count};
+ghost use Rattle.octets.specs.Refusal.{fault_of};
 ghost use Rattle.state.specs.Link.{link_size, link_octets, link_of};
 ghost use Rattle.state.specs.Edition.{edition_of};
 ghost use Rattle.state.specs.Layout.{slot_place, state_size, link_part};
-ghost use Rattle.state.specs.Calls.{state_at, judge_of, Stands, lift_of, Lays, LaysSlots, LaysBoth, Saves};
+ghost use Rattle.state.specs.Calls.{state_at, OfSize, judge_of, Stands, silence_of, lift_of, lifted_of, Lays, LaysSlots, LaysBoth, Saves};
 
 use apdu::Edition;
 use collector::Collector;
 use frames::Link;
+use octets::Refusal;
 use rebuild::Slots;
 
 // The octets of a link, in front; where the frame store stands and ends; the edition's place; where the slots stand, and the octets of each; the octets of a state.
@@ -41,68 +43,51 @@ fn slot_place(i: usize) -> usize
 }
 
 // The edition that an octet says: 0 is 1995, any other the later one.
+#[tactic(auto, using(octets::specs::Rules::tests), unfolding(crate::specs::Edition::edition_of))]
 pub fn edition_of(octet: u8) -> Edition
     ensures { result ≡ edition_of octet }
 {
     if octet == 0 {
-        return Edition::First;
+        Edition::First
+    } else {
+        Edition::Later
     }
-    Edition::Later
 }
 
-// 60; 59 for octets that are no state's or a state that 59 does not pass; else 0. Judged on the octets where they stand, the quick tests first.
-pub fn judge(area: &[u8]) -> u8
-    ensures { result ≡ judge_of area.now }
+// The octets of an area of a state's size, or 60.
+fn sized(area: &[u8]) -> Result<&[u8; SIZE], Refusal>
+    ensures { OfSize area.now result }
 {
-    if area.len() != SIZE {
-        return 60;
-    }
-    if judging::link_fair(area) {
-        if area[EDITION] <= 1 {
-            if judging::all_free(area) {
-                return 0;
-            }
-            if judging::slots_fair(area) {
-                return 0;
-            }
-        }
-    }
-    59
+    area.as_array().ok_or(Refusal::AreaSize)
 }
 
-// What a silence wants of a state: 60, 59 or 0 with the link; store and slots stay in their place in the area.
-#[derive(Clone, Copy)]
-pub struct Silence {
-    pub refused: u8,
-    pub link: Link,
-}
-
-// The same judgement, and the link. (The tests of `judge` again and no call of it: with two callers it would be laid into neither.)
-pub fn still(area: &[u8]) -> Silence
-    ensures { Stands area.now result }
+// 60; 59 for octets that are no state's or a state that 59 does not pass. Judged on the octets where they stand, the quick tests first.
+#[inline(always)]
+pub fn judge(area: &[u8]) -> Result<(), Refusal>
+    ensures { fault_of result ≡ judge_of area.now }
 {
-    if area.len() != SIZE {
-        return loading::unlinked(60);
+    let o = sized(area)?;
+    if !judging::link_fair(o) || 1 < o[EDITION] || !judging::slots_pass(o) {
+        return Err(Refusal::UnfitState);
     }
-    if judging::link_fair(area) {
-        if area[EDITION] <= 1 {
-            if judging::all_free(area) {
-                return loading::linked(area);
-            }
-            if judging::slots_fair(area) {
-                return loading::linked(area);
-            }
-        }
-    }
-    loading::unlinked(59)
+    Ok(())
+}
+
+// The same judgement for a silence, and the link; store and slots stay in their place in the area.
+pub fn still(area: &[u8]) -> Result<Link, Refusal>
+    ensures { Stands area.now (silence_of result) }
+{
+    judge(area)?;
+    Ok(loading::link_of(&area[..LINK]))
 }
 
 // The head of the frame that a state's octets hold.
+// Stays: (a) that the octets are as many as a state's is asked here and of `slots_at`: hitchbarley lends slices, judged before, and a public function takes no narrower type.
 pub fn head_at(area: &[u8]) -> [u8; 5]
     requires { length area.now ≡ state_size }
     ensures { result ≡ (link_of (link_part area.now)).head }
 {
-    loading::head_of(&area[0..LINK])
+    loading::head_of(&area[..LINK])
 }
 
 // The slots that a state's octets hold.
@@ -120,73 +105,63 @@ pub fn slots_at(area: &[u8]) -> Slots
     }
 }
 
-// What lifting answers: 60, 59 or 0 with edition, link and slots; the store stays in its place in the area.
+// What an area's octets hold beside the frame store, which stays in its place.
 #[derive(Clone, Copy)]
 pub struct Lifted {
-    pub refused: u8,
     pub edition: Edition,
     pub link: Link,
     pub slots: Slots,
 }
 
-// The edition, the link and the slots that an area's octets hold.
-pub fn lift(area: &[u8]) -> Lifted
-    ensures { result ≡ lift_of area.now }
+// The edition, the link and the slots that an area's octets hold; 60, or 59 for octets that are no state's.
+pub fn lift(area: &[u8]) -> Result<Lifted, Refusal>
+    ensures { lifted_of result ≡ lift_of area.now }
 {
-    if area.len() != SIZE {
-        return loading::refused(60);
+    let o = sized(area)?;
+    if !loading::state_good(o) {
+        return Err(Refusal::UnfitState);
     }
-    if loading::state_good(area) {
-        let edition = edition_of(area[EDITION]);
-        let link = loading::link_of(&area[0..LINK]);
-        let slots = slots_at(area);
-        return Lifted {
-            refused: 0,
-            edition,
-            link,
-            slots,
-        };
-    }
-    loading::refused(59)
+    let edition = edition_of(o[EDITION]);
+    let link = loading::link_of(&o[..LINK]);
+    let slots = slots_at(o);
+    Ok(Lifted {
+        edition,
+        link,
+        slots,
+    })
 }
 
 // A link laid over the one in an area of a state's size; 60 and nothing changes in any other.
-pub fn lay_link(link: Link, area: &mut [u8]) -> u8
-    ensures { Lays 0 link_size (link_octets link) area.old result area.new }
+pub fn lay_link(link: Link, area: &mut [u8]) -> Result<(), Refusal>
+    ensures { Lays 0 link_size (link_octets link) area.old (fault_of result) area.new }
 {
-    if area.len() != SIZE {
-        return 60;
-    }
+    sized(area)?;
     saving::put_link(link, area);
-    0
+    Ok(())
 }
 
 // Slots laid over those in an area of a state's size; 60 and nothing changes in any other.
-pub fn lay_slots(slots: Slots, area: &mut [u8]) -> u8
-    ensures { LaysSlots slots area.old result area.new }
+pub fn lay_slots(slots: Slots, area: &mut [u8]) -> Result<(), Refusal>
+    ensures { LaysSlots slots area.old (fault_of result) area.new }
 {
-    if area.len() != SIZE {
-        return 60;
-    }
+    sized(area)?;
     saving::put_slots(slots, area);
-    0
+    Ok(())
 }
 
 // A link and slots laid one after the other.
-pub fn lay(link: Link, slots: Slots, area: &mut [u8]) -> u8
-    ensures { LaysBoth link slots area.old result area.new }
+pub fn lay(link: Link, slots: Slots, area: &mut [u8]) -> Result<(), Refusal>
+    ensures { LaysBoth link slots area.old (fault_of result) area.new }
 {
-    lay_link(link, area);
+    lay_link(link, area)?;
     lay_slots(slots, area)
 }
 
 // The state's octets into an area of its size; 60 and nothing changes in any other.
-pub fn save(c: Collector, area: &mut [u8]) -> u8
-    ensures { Saves c area.old result area.new }
+pub fn save(c: Collector, area: &mut [u8]) -> Result<(), Refusal>
+    ensures { Saves c area.old (fault_of result) area.new }
 {
-    if area.len() != SIZE {
-        return 60;
-    }
+    sized(area)?;
     saving::put_state(c, area);
-    0
+    Ok(())
 }

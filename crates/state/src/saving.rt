@@ -22,7 +22,10 @@ fn phase_octets(p: Phase) -> [u8; 3]
         Phase::Hunting => [0, 0, 0],
         Phase::Preamble => [1, 0, 0],
         Phase::Header(got) => [2, 0, got],
-        Phase::Data(got) => [3, (got / 256) as u8, (got % 256) as u8],
+        Phase::Data(got) => {
+            let [high, low] = got.to_be_bytes();
+            [3, high, low]
+        }
     }
 }
 
@@ -39,16 +42,17 @@ fn edition_octet(edition: Edition) -> u8
 fn front_octets(x: Slot) -> [u8; 9]
     ensures { result ≡ front_octets x }
 {
+    let [high, low] = x.held.to_be_bytes();
     [
-        x.used as u8,
+        u8::from(x.used),
         x.key.source,
         x.key.destination,
         x.key.kind,
         x.key.invoke,
         x.next,
         x.choice,
-        (x.held / 256) as u8,
-        (x.held % 256) as u8,
+        high,
+        low,
     ]
 }
 
@@ -56,12 +60,8 @@ fn front_octets(x: Slot) -> [u8; 9]
 fn number_octets(a: Address) -> [u8; 4]
     ensures { result ≡ number_octets a }
 {
-    [
-        a.present as u8,
-        (a.network / 256) as u8,
-        (a.network % 256) as u8,
-        a.length,
-    ]
+    let [high, low] = a.network.to_be_bytes();
+    [u8::from(a.present), high, low, a.length]
 }
 
 // Phase, count, head and first check octet.
@@ -69,11 +69,8 @@ pub fn put_link(l: Link, area: &mut [u8])
     requires { length area.old ≡ state_size }
     ensures { area.new ≡ splice area.old 0 (link_octets l) }
 {
-    let g = l.phase;
-    let p = phase_octets(g);
-    let h = l.head;
-    octets::copy(&p, area, 0);
-    octets::copy(&h, area, 3);
+    octets::copy(&phase_octets(l.phase), area, 0);
+    octets::copy(&l.head, area, 3);
     octets::put(area, 8, l.first);
 }
 
@@ -82,10 +79,8 @@ fn put_address(a: Address, area: &mut [u8], at: usize)
     requires { at + address_size ≤ length area.old }
     ensures { area.new ≡ splice area.old at (address_octets a) }
 {
-    let n = number_octets(a);
-    let x = a.octets;
-    octets::copy(&n, area, at);
-    octets::copy(&x, area, at + 4);
+    octets::copy(&number_octets(a), area, at);
+    octets::copy(&a.octets, area, at + 4);
 }
 
 // Slot i.
@@ -94,23 +89,19 @@ fn put_slot(x: Slot, area: &mut [u8], i: usize)
     ensures { area.new ≡ splice area.old (slot_place i) (slot_octets x) }
 {
     let at = slot_place(i);
-    let o = front_octets(x);
-    let k = x.key;
-    let from = k.from;
-    let to = k.to;
-    octets::copy(&o, area, at);
-    put_address(from, area, at + 9);
-    put_address(to, area, at + 20);
+    octets::copy(&front_octets(x), area, at);
+    put_address(x.key.from, area, at + 9);
+    put_address(x.key.to, area, at + 20);
 }
 
+// All of them, one after the other.
 pub fn put_slots(t: Slots, area: &mut [u8])
     requires { length area.old ≡ state_size }
     ensures { area.new ≡ splice area.old slots_place (slots_octets t.slots) }
 {
-    put_slot(t.slots[0], area, 0);
-    put_slot(t.slots[1], area, 1);
-    put_slot(t.slots[2], area, 2);
-    put_slot(t.slots[3], area, 3);
+    for (i, slot) in t.slots.iter().enumerate() {
+        put_slot(*slot, area, i);
+    }
 }
 
 // All of it.
@@ -118,14 +109,8 @@ pub fn put_state(c: Collector, area: &mut [u8])
     requires { length area.old ≡ state_size }
     ensures { area.new ≡ state_octets c }
 {
-    let r = c.receiver;
-    let l = r.link;
-    let s = r.store;
-    let t = c.slots;
-    let g = c.edition;
-    let e = edition_octet(g);
-    put_link(l, area);
-    octets::copy(&s, area, STORE);
-    octets::put(area, EDITION, e);
-    put_slots(t, area);
+    put_link(c.receiver.link, area);
+    octets::copy(&c.receiver.store, area, STORE);
+    octets::put(area, EDITION, edition_octet(c.edition));
+    put_slots(c.slots, area);
 }

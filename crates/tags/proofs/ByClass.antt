@@ -1,30 +1,28 @@
 -- The reading at a tag octet b whose class is known, by what else b is.
 use Prim.Native.Nat.{ℕ, ◌+◌, ◌/◌, ◌%◌, ◌≤◌, ◌<◌}
 use native.Mathlib.Omega.{arith}
-use mathlib.Core.Path.{◌≡◌, sym, ◌∙◌}
+use mathlib.Core.Path.{◌≡◌}
 use mathlib.Core.List.{List}
 use mathlib.Core.Logic.{◌⊎◌, inl, inr}
-use mathlib.Core.Bool.{true, false}
 use lib.ListN.{length}
 use lib.Dec.{ltb, leb, eqb}
-use borrow.Author.Tests.{lt-ltb, le-ltb, le-leb, lt-leb, eq-eqb, ne_eqb, eqb-true, eqb-false, leb-true, ltb-false}
-use Rattle.octets.specs.Choice.{pick, by_test, both, both_true}
+use borrow.Author.Tests.{lt-ltb, le-ltb, le-leb, lt-leb, eq-eqb, ne_eqb, eqb-true, eqb-false, ltb-true, ltb-false}
+use Rattle.octets.specs.Choice.{pick, by_test, both}
 use Rattle.octets.specs.Reading.{oct}
 use Rattle.tags.specs.Types.{least, most, right_length}
 use Rattle.tags.specs.Tagged.{Tagged}
 use Rattle.tags.specs.Reading.{number_at, length_at, first_content, contents_at, first_rule, context_at, application_at, head_at}
-use Rattle.tags.specs.declared.Field.{Field}
-use Rattle.tags.specs.declared.Field.TheVariants.{Is, Bad}
-use Rattle.tags.specs.declared.Tag.TheVariants.{Item, Refused}
+use Rattle.tags.specs.Head.Field.{Is, Bad}
+use Rattle.tags.specs.Head.Tag.{Item, Refused}
 
 -- a context tag: its number, then what its length bits say
-pub at_context : (s : List ℕ) (at b n p : ℕ) → Tagged s at b 1 → number_at s at ≡ Is n p → context_at s (b % 8) n p ≡ head_at s at
+pub at_context : (s : List ℕ) (at b n p : ℕ) → Tagged s at b 1 → Is n p ≡ number_at s at → context_at s (b % 8) n p ≡ head_at s at
 unfolding head_at first_rule
-at_context s at b n p t e = rw (lt-leb (length s) at t.there, ← t.octet, t.class, e)
+at_context s at b n p t e = rw (lt-leb (length s) at t.there, ← t.octet, t.class, ← e)
 
-pub at_context_bad : (s : List ℕ) (at b x : ℕ) → Tagged s at b 1 → number_at s at ≡ Bad x → Refused x ≡ head_at s at
+pub at_context_bad : (s : List ℕ) (at b x : ℕ) → Tagged s at b 1 → Bad x ≡ number_at s at → Refused x ≡ head_at s at
 unfolding head_at first_rule
-at_context_bad s at b x t e = rw (lt-leb (length s) at t.there, ← t.octet, t.class, e)
+at_context_bad s at b x t e = rw (lt-leb (length s) at t.there, ← t.octet, t.class, ← e)
 
 module _ (s : List ℕ) (at b : ℕ) (t : Tagged s at b 0) where
   -- 31: "application number above 12"
@@ -37,9 +35,11 @@ module _ (s : List ℕ) (at b : ℕ) (t : Tagged s at b 0) where
   unfolding head_at first_rule
   at_six w v = rw (lt-leb (length s) at t.there, ← t.octet, t.class, ne_eqb (b / 16) 15 (λ e. omega arith), le-ltb 12 (b / 16) w, lt-ltb 5 (b % 8) v)
 
-  pub at_boolean_bad : b / 16 ≡ 1 → b % 8 ≤ 5 → 1 < b % 8 → Refused 32 ≡ head_at s at
+  pub at_boolean_bad : b / 16 ≡ 1 → 1 < b % 8 → Refused 32 ≡ head_at s at
   unfolding head_at first_rule
-  at_boolean_bad e w v = rw (lt-leb (length s) at t.there, ← t.octet, t.class, e, le-ltb 5 (b % 8) w, lt-ltb 1 (b % 8) v)
+  at_boolean_bad e v =
+      rw (lt-leb (length s) at t.there, ← t.octet, t.class, e, lt-ltb 1 (b % 8) v)
+      (by_test (ltb 5 (b % 8)) (λ f. rw f) (λ f. rw f))
 
   -- "1 boolean, length bits 0 or 1 are the value, no contents"
   pub at_boolean : b / 16 ≡ 1 → b % 8 ≤ 1 → Item 0 1 (b % 8) (at + 1) 0 ≡ head_at s at
@@ -123,42 +123,32 @@ module _ (s : List ℕ) (p n len r : ℕ) where
       let last : n ≡ 12 = highest n w (past 11 n (past 10 n from-ten (eqb-false n 10 y)) (eqb-false n 11 z)) in
       rw last h)))
 
--- an application item that is no boolean, by its length f
-module _ (s : List ℕ) (l n p : ℕ) (w : n ≤ 12) (one : n ≡ 1 → ⊥) (f : Field) (g : f ≡ length_at s p l) where
-  pub type_bad : (x : ℕ) → f ≡ Bad x → Refused x ≡ application_at s l n p
+-- an application item that is no boolean, by its length
+module _ (s : List ℕ) (l n p : ℕ) (w : n ≤ 12) (one : n ≡ 1 → ⊥) where
+  pub type_bad : (x : ℕ) → Bad x ≡ length_at s p l → Refused x ≡ application_at s l n p
   unfolding application_at
-  type_bad x h = rw (le-ltb 12 n w, ne_eqb n 1 one, ← g, h)
+  type_bad x h = rw (le-ltb 12 n w, ne_eqb n 1 one, ← h)
 
-  module _ (v q : ℕ) (h : f ≡ Is v q) where
-    e : length_at s p l ≡ Is v q
-    e = sym g ∙ h
-
-    -- 33: "contents length wrong for its type"
-    long : right_length n v ≡ false → Refused 33 ≡ application_at s l n p
-    unfolding application_at right_length
-    long h =
-        rw (le-ltb 12 n w, ne_eqb n 1 one, e)
-        (by_test (ltb v (least n)) (λ f. rw f) (λ f.
-        by_test (ltb (most n) v) (λ g. rw (f, g)) (λ g.
-        let k : true ≡ false = rw (le-leb (least n) v (ltb-false v (least n) f), le-leb v (most n) (ltb-false (most n) v g)) at h in cc)))
-
-    wrong : (x : ℕ) → right_length n v ≡ true → x ≡ contents_at s q n v → 0 < x → Refused x ≡ application_at s l n p
-    unfolding application_at right_length
-    wrong x h f g =
-        let k = both_true (leb (least n) v) (leb v (most n)) h in
-        rw (le-ltb 12 n w, ne_eqb n 1 one, e, le-ltb v (least n) (leb-true (least n) v k.0), le-ltb (most n) v (leb-true v (most n) k.1), ← f, lt-ltb 0 x g)
-
-    good : (x : ℕ) → right_length n v ≡ true → x ≡ contents_at s q n v → x ≤ 0 → Item 0 n 0 q v ≡ application_at s l n p
-    unfolding application_at right_length
-    good x h f g =
-        let k = both_true (leb (least n) v) (leb v (most n)) h in
-        rw (le-ltb 12 n w, ne_eqb n 1 one, e, le-ltb v (least n) (leb-true (least n) v k.0), le-ltb (most n) v (leb-true v (most n) k.1), ← f, le-ltb 0 x g)
-
-    -- by what the contents break, their length first
+  module _ (v q : ℕ) (h : Is v q ≡ length_at s p l) where
+    -- by what the contents break, their length first. 33: "contents length wrong for its type"
     pub type_wrong : (x : ℕ) → x ≡ pick (right_length n v) (contents_at s q n v) 33 → 0 < x → Refused x ≡ application_at s l n p
+    unfolding application_at right_length
     type_wrong x k u =
-        by_test (right_length n v) (λ t. wrong x t (rw t at k) u) (λ t. let z : x ≡ 33 = rw t at k in rw z (long t))
+        rw (le-ltb 12 n w, ne_eqb n 1 one, ← h)
+        (by_test (ltb v (least n))
+        (λ f. let z : x ≡ 33 = rw (lt-leb (least n) v (ltb-true v (least n) f)) at k in rw (f, z))
+        (λ f. let f' = le-leb (least n) v (ltb-false v (least n) f) in
+        by_test (ltb (most n) v)
+        (λ g. let z : x ≡ 33 = rw (f', lt-leb v (most n) (ltb-true (most n) v g)) at k in rw (f, g, z))
+        (λ g. let z : x ≡ contents_at s q n v = rw (f', le-leb v (most n) (ltb-false (most n) v g)) at k in rw (f, g, ← z, lt-ltb 0 x u))))
 
-    pub type_good : (x : ℕ) → x ≡ pick (right_length n v) (contents_at s q n v) 33 → x ≤ 0 → Item 0 n 0 q v ≡ application_at s l n p
-    type_good x k u =
-        by_test (right_length n v) (λ t. good x t (rw t at k) u) (λ t. let z : x ≡ 33 = rw t at k in absurd (omega arith))
+    pub type_good : 0 ≡ pick (right_length n v) (contents_at s q n v) 33 → Item 0 n 0 q v ≡ application_at s l n p
+    unfolding application_at right_length
+    type_good k =
+        rw (le-ltb 12 n w, ne_eqb n 1 one, ← h)
+        (by_test (ltb v (least n))
+        (λ f. let z : 0 ≡ 33 = rw (lt-leb (least n) v (ltb-true v (least n) f)) at k in absurd (omega arith))
+        (λ f. let f' = le-leb (least n) v (ltb-false v (least n) f) in
+        by_test (ltb (most n) v)
+        (λ g. let z : 0 ≡ 33 = rw (f', lt-leb v (most n) (ltb-true (most n) v g)) at k in absurd (omega arith))
+        (λ g. let z : 0 ≡ contents_at s q n v = rw (f', le-leb v (most n) (ltb-false (most n) v g)) at k in rw (f, g, ← z))))

@@ -15,8 +15,8 @@ use Rattle.tags.specs.Types.{longest, least, most}
 use Rattle.tags.specs.Reading.{number_at, length_at, first_rule, contents_at, context_at, application_at, head_at}
 use Rattle.tags.specs.Layout.{Thing, high_bits, number_octets, low_bits, length_octets, encode, Application, Valid, good_contents, tag_length, contents_of, tag_of, Good, Stands}
 use Rattle.tags.specs.Layout.Thing.{application, boolean, context, opening, closing}
-use Rattle.tags.specs.declared.Tag.{Tag}
-use Rattle.tags.specs.declared.Tag.TheVariants.{Item, Opening, Closing}
+use Rattle.tags.specs.Head.{Tag}
+use Rattle.tags.specs.Head.Tag.{Item, Opening, Closing}
 use Rattle.tags.proofs.Bounds.{and_then_lem, contents_in, first_bits, boolean_bits}
 use Rattle.tags.proofs.Spelling.{NumberHas, LengthHas, NumberStands, LengthStands, number_complete, number_sound, length_complete, length_sound}
 use Rattle.tags.proofs.Rule.{contents_exact}

@@ -15,8 +15,8 @@ use Rattle.tags.specs.Rows.{Spelled, LengthCut, LengthTo}
 use Rattle.tags.specs.Rows.Spelled.{one_octet, two_octets, four_octets}
 use Rattle.tags.specs.Rows.LengthCut.{cut_first, cut_two, cut_four}
 use Rattle.tags.specs.Rows.LengthTo.{length_inside, length_next}
-use Rattle.tags.specs.declared.Field.{Field}
-use Rattle.tags.specs.declared.Field.TheVariants.{Is, Bad}
+use Rattle.tags.specs.Head.{Field}
+use Rattle.tags.specs.Head.Field.{Is, Bad}
 
 -- ---- numbers of two and of four octets
 value_two : (s : List ℕ) (p : ℕ) → value_at s p 2 ≡ be16 s p

@@ -12,8 +12,8 @@ use Rattle.octets.specs.Reading.{oct, Octets}
 use Rattle.tags.specs.Reading.{number_at, first_rule}
 use Rattle.tags.specs.Rows.{number_bits, length_bits, IsContext, IsApplication, NumberTo}
 use Rattle.tags.specs.Rows.NumberTo.{number_inside, number_next}
-use Rattle.tags.specs.declared.Field.{Field}
-use Rattle.tags.specs.declared.Field.TheVariants.{Is, Bad}
+use Rattle.tags.specs.Head.{Field}
+use Rattle.tags.specs.Head.Field.{Is, Bad}
 
 -- ---- the tag octet by itself
 -- an application tag that it does not refuse

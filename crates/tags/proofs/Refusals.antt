@@ -11,10 +11,10 @@ use Rattle.octets.specs.Choice.{pick, pick_case, pick_cases}
 use Rattle.octets.specs.Reading.{oct, be16}
 use Rattle.tags.specs.Types.{longest, least, most}
 use Rattle.tags.specs.Reading.{and_then, number_at, two_at, four_at, length_at, first_rule, first_content, whole_at, sign_bad, signed_at, contents_at, context_at, application_at, head_at}
-use Rattle.tags.specs.declared.Field.{Field}
-use Rattle.tags.specs.declared.Field.TheVariants.{Is, Bad}
-use Rattle.tags.specs.declared.Tag.{Tag}
-use Rattle.tags.specs.declared.Tag.TheVariants.{Item, Opening, Closing, Refused}
+use Rattle.tags.specs.Head.{Field}
+use Rattle.tags.specs.Head.Field.{Is, Bad}
+use Rattle.tags.specs.Head.{Tag}
+use Rattle.tags.specs.Head.Tag.{Item, Opening, Closing, Refused}
 
 -- a refusal's number has the property; what is good has no number
 abbrev FieldHas : (ℕ → Type 0) → Field → Type 0

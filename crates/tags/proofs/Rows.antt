@@ -22,8 +22,8 @@ use Rattle.tags.specs.Rows.NotShortest.{longer_form, six_seven, boolean_over}
 use Rattle.tags.specs.Rows.WrongLength.{wrong_length, over_length}
 use Rattle.tags.specs.Rows.WrongContents.{rule_broken}
 use Rattle.tags.specs.Rows.Given.{thirty, thirty_one, thirty_two, thirty_three, thirty_four}
-use Rattle.tags.specs.declared.Tag.{Tag}
-use Rattle.tags.specs.declared.Tag.TheVariants.{Item, Refused}
+use Rattle.tags.specs.Head.{Tag}
+use Rattle.tags.specs.Head.Tag.{Item, Refused}
 use Rattle.tags.proofs.Bounds.{and_then_lem}
 use Rattle.tags.proofs.Exact.{most_longest}
 use Rattle.tags.proofs.Refusals.{TagHas}

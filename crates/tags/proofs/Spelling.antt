@@ -13,8 +13,8 @@ use Rattle.octets.specs.Has.{Has}
 use Rattle.tags.specs.Types.{longest}
 use Rattle.tags.specs.Reading.{number_at, two_at, four_at, length_at}
 use Rattle.tags.specs.Layout.{high_bits, number_octets, low_bits, length_octets}
-use Rattle.tags.specs.declared.Field.{Field}
-use Rattle.tags.specs.declared.Field.TheVariants.{Is, Bad}
+use Rattle.tags.specs.Head.{Field}
+use Rattle.tags.specs.Head.Field.{Is, Bad}
 
 -- the tag octet at a place holds the number n, with the octet after it where it needs one; q is the place after both
 pub record NumberHas (s : List ℕ) (at n q : ℕ) : Type 0 where

@@ -6,7 +6,7 @@ use Rattle.tags.specs.Types.{least, most}
 use Rattle.tags.specs.Reading.{number_at, two_at, four_at, length_at, first_rule, first_content, whole_at, sign_bad, signed_at, contents_at, context_at, application_at, head_at}
 use Rattle.tags.specs.Signed.{signed_value}
 use Rattle.tags.specs.Signed.Whole.{minus}
-use Rattle.tags.specs.declared.Tag.TheVariants.{Item, Opening, Closing, Refused}
+use Rattle.tags.specs.Head.Tag.{Item, Opening, Closing, Refused}
 
 pub record Worked : Type 0 where
   -- 3E 44 42 39 99 9A 3F, tag by tag

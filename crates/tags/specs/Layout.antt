@@ -3,8 +3,8 @@ use Rattle.std.specs.Prelude.{ℕ, ◌+◌, ◌*◌, ◌/◌, ◌%◌, ◌≤◌
 use Rattle.octets.specs.Choice.{pick, both, non}
 use Rattle.octets.specs.Has.{Has}
 use Rattle.tags.specs.Types.{longest, least, most}
-use Rattle.tags.specs.declared.Tag.{Tag}
-use Rattle.tags.specs.declared.Tag.TheVariants.{Item, Opening, Closing, Refused}
+use Rattle.tags.specs.Head.{Tag}
+use Rattle.tags.specs.Head.Tag.{Item, Opening, Closing, Refused}
 
 -- what an item is: an application value that is no boolean, by its type; a boolean, 0 or 1; a context value; an opening and a closing of a group
 pub data Thing : Type 0 where

@@ -1,3 +1,4 @@
+pub mod Head
 pub mod Types
 pub mod Reading
 pub mod Layout

@@ -3,10 +3,10 @@ use Rattle.std.specs.Prelude.{ℕ, ◌+◌, ◌-◌, ◌/◌, ◌%◌, List, Boo
 use Rattle.octets.specs.Choice.{pick}
 use Rattle.octets.specs.Reading.{oct, be16, reach, refuse}
 use Rattle.tags.specs.Types.{longest, least, most}
-use Rattle.tags.specs.declared.Field.{Field}
-use Rattle.tags.specs.declared.Field.TheVariants.{Is, Bad}
-use Rattle.tags.specs.declared.Tag.{Tag}
-use Rattle.tags.specs.declared.Tag.TheVariants.{Item, Opening, Closing, Refused}
+use Rattle.tags.specs.Head.{Field}
+use Rattle.tags.specs.Head.Field.{Is, Bad}
+use Rattle.tags.specs.Head.{Tag}
+use Rattle.tags.specs.Head.Tag.{Item, Opening, Closing, Refused}
 
 -- "Number 15: the next octet holds 15 to 254." 31: "extended number below 15 or 255"
 unfoldable pub number_at : List ℕ → ℕ → Field

@@ -1,107 +1,92 @@
 // The number and the length of a tag, in the tag octet or after it.
 ghost use Rattle.std.specs.Prelude.{◌≡◌};
+ghost use Rattle.tags.specs.Head.{field_of};
 ghost use Rattle.tags.specs.Reading.{number_at, two_at, four_at, length_at};
 
 use crate::Field;
+use octets::Refusal;
 
 // The number: 0 to 14 in the tag octet, or 15 to 254 in the next.
-pub fn number(s: &[u8], at: usize) -> Field
-    ensures { result ≡ number_at s.now at }
+#[tactic(auto, using(octets::specs::Rules::tests), unfolding(crate::specs::Reading::number_at))]
+pub fn number(s: &[u8], at: usize) -> Result<Field, Refusal>
+    ensures { field_of result ≡ number_at s.now at }
 {
     if s.len() <= at {
-        return Field::Bad(30);
+        return Err(Refusal::ItemEndsEarly);
     }
     let n = s[at] / 16;
     if n < 15 {
-        return Field::Is {
-            value: octets::wide(n),
+        return Ok(Field {
+            value: usize::from(n),
             next: at + 1,
-        };
+        });
     }
-    let b = at + 1;
-    if s.len() <= b {
-        return Field::Bad(30);
+    if s.len() <= at + 1 {
+        return Err(Refusal::ItemEndsEarly);
     }
-    let e = s[b];
-    if e < 15 {
-        return Field::Bad(31);
-    }
-    if 254 < e {
-        return Field::Bad(31);
-    }
-    Field::Is {
-        value: octets::wide(e),
-        next: at + 2,
+    match s[at + 1] {
+        0..=14 | 255 => Err(Refusal::TagNumber),
+        e => Ok(Field {
+            value: usize::from(e),
+            next: at + 2,
+        }),
     }
 }
 
 // The length, where l stands in the tag octet: below 5 it is l; at 5 the octets at the place say it.
-pub fn length(s: &[u8], at: usize, l: u8) -> Field
-    ensures { result ≡ length_at s.now at l }
+#[tactic(auto, using(octets::specs::Rules::tests), unfolding(crate::specs::Reading::length_at))]
+pub fn length(s: &[u8], at: usize, l: u8) -> Result<Field, Refusal>
+    ensures { field_of result ≡ length_at s.now at l }
 {
     if l < 5 {
-        return Field::Is {
-            value: octets::wide(l),
+        return Ok(Field {
+            value: usize::from(l),
             next: at,
-        };
+        });
     }
     if s.len() <= at {
-        return Field::Bad(30);
+        return Err(Refusal::ItemEndsEarly);
     }
-    let e = s[at];
-    let b = at + 1;
-    if e < 5 {
-        return Field::Bad(32);
+    match s[at] {
+        0..=4 => Err(Refusal::NotShortest),
+        254 => two(s, at + 1),
+        255 => four(s, at + 1),
+        e => Ok(Field {
+            value: usize::from(e),
+            next: at + 1,
+        }),
     }
-    if e < 254 {
-        return Field::Is {
-            value: octets::wide(e),
-            next: b,
-        };
-    }
-    if e == 254 {
-        return two(s, b);
-    }
-    four(s, b)
 }
 
 // A length of two octets.
-fn two(s: &[u8], at: usize) -> Field
-    ensures { result ≡ two_at s.now at }
+#[tactic(auto, using(octets::specs::Rules::tests), unfolding(crate::specs::Reading::two_at))]
+fn two(s: &[u8], at: usize) -> Result<Field, Refusal>
+    ensures { field_of result ≡ two_at s.now at }
 {
-    if s.len() <= at {
-        return Field::Bad(30);
+    if s.len() <= at || s.len() <= at + 1 {
+        return Err(Refusal::ItemEndsEarly);
     }
-    let b = at + 1;
-    if s.len() <= b {
-        return Field::Bad(30);
-    }
-    let v = octets::pair(s[at], s[b]) as usize;
-    if v < 254 {
-        return Field::Bad(32);
-    }
-    if 16384 < v {
-        return Field::Bad(33);
-    }
-    Field::Is {
-        value: v,
-        next: at + 2,
+    let value = usize::from(octets::pair(s[at], s[at + 1]));
+    match value {
+        0..=253 => Err(Refusal::NotShortest),
+        254..=16384 => Ok(Field {
+            value,
+            next: at + 2,
+        }),
+        _ => Err(Refusal::ContentsLength),
     }
 }
 
 // A length of four octets: in no good item, since all that need four are over 16,384.
-fn four(s: &[u8], at: usize) -> Field
-    ensures { result ≡ four_at s.now at }
+#[tactic(auto, using(octets::specs::Rules::tests), unfolding(crate::specs::Reading::four_at))]
+fn four(s: &[u8], at: usize) -> Result<Field, Refusal>
+    ensures { field_of result ≡ four_at s.now at }
 {
-    if s.len() <= at {
-        return Field::Bad(30);
+    if s.len() <= at || s.len() - at < 4 {
+        return Err(Refusal::ItemEndsEarly);
     }
-    if s.len() - at < 4 {
-        return Field::Bad(30);
+    if octets::pair(s[at], s[at + 1]) == 0 {
+        return Err(Refusal::NotShortest);
     }
-    let b = at + 1;
-    if octets::pair(s[at], s[b]) == 0 {
-        return Field::Bad(32);
-    }
-    Field::Bad(33)
+    Err(Refusal::ContentsLength)
 }

@@ -1,127 +1,120 @@
 // An item by its class, context or application, once its tag octet and number are read.
 ghost use Rattle.std.specs.Prelude.{◌≡◌, ◌/◌, ◌≤◌, ◌<◌};
+ghost use Rattle.octets.specs.Refusal.{number_of};
+ghost use Rattle.tags.specs.Head.{tag_of};
+ghost use Rattle.tags.specs.Head.Tag.{Refused};
 ghost use Rattle.tags.specs.Tagged.{Tagged};
-ghost use Rattle.tags.specs.declared.Tag.TheVariants.{Refused};
 ghost use Rattle.tags.specs.Reading.{head_at, context_at, application_at};
 
 use crate::contents::by_type;
 use crate::fields::{length, number};
-use crate::{Field, Tag};
+use crate::{Class, Tag};
+use octets::Refusal;
 
-// The application item whose tag octet b stands at the place. A boolean's value is in the length bits, and it has no contents.
-pub fn application_head(s: &[u8], at: usize, b: u8) -> Tag
+// The application item whose tag octet b stands at the place.
+pub fn application_head(s: &[u8], at: usize, b: u8) -> Result<Tag, Refusal>
     requires { Tagged s.now at b 0 }
-    ensures { result ≡ head_at s.now at }
+    ensures { tag_of result ≡ head_at s.now at }
 {
     let n = b / 16;
     let l = b % 8;
     if 12 < n {
-        return Tag::Refused(above_twelve(s, at, b));
+        return Err(above_twelve(s, at, b));
     }
     if 5 < l {
-        return Tag::Refused(32);
+        return Err(Refusal::NotShortest);
     }
     if n == 1 {
-        if 1 < l {
-            return Tag::Refused(32);
-        }
-        return Tag::Item {
-            kind: 0,
-            number: 1,
-            value: l,
-            place: at + 1,
-            len: 0,
-        };
+        return boolean(s, at, b);
     }
     application(s, l, n, at + 1)
 }
 
+// The boolean whose tag octet b stands at the place: its value is in the length bits, and it has no contents.
+fn boolean(s: &[u8], at: usize, b: u8) -> Result<Tag, Refusal>
+    requires { Tagged s.now at b 0 × (b / 16 ≡ 1) }
+    ensures { tag_of result ≡ head_at s.now at }
+{
+    if 1 < b % 8 {
+        return Err(Refusal::NotShortest);
+    }
+    Ok(Tag::Item {
+        class: Class::Application,
+        number: 1,
+        value: b % 8,
+        place: at + 1,
+        len: 0,
+    })
+}
+
 // What an application tag with a number above 12 in its tag octet b breaks. At 15 the second octet is reached.
-fn above_twelve(s: &[u8], at: usize, b: u8) -> u8
+fn above_twelve(s: &[u8], at: usize, b: u8) -> Refusal
     requires { Tagged s.now at b 0 × (12 < b / 16) }
-    ensures { Refused result ≡ head_at s.now at }
+    ensures { Refused (number_of result) ≡ head_at s.now at }
 {
     if b / 16 < 15 {
-        return 31;
+        return Refusal::TagNumber;
     }
     if 5 < b % 8 {
-        return 32;
+        return Refusal::NotShortest;
     }
     if s.len() <= at + 1 {
-        return 30;
+        return Refusal::ItemEndsEarly;
     }
-    31
+    Refusal::TagNumber
 }
 
 // The context item whose tag octet b stands at the place.
-pub fn context_head(s: &[u8], at: usize, b: u8) -> Tag
+pub fn context_head(s: &[u8], at: usize, b: u8) -> Result<Tag, Refusal>
     requires { Tagged s.now at b 1 }
-    ensures { result ≡ head_at s.now at }
+    ensures { tag_of result ≡ head_at s.now at }
 {
-    let f = number(s, at);
-    match f {
-        Field::Is { value, next } => context(s, b % 8, value as u8, next),
-        Field::Bad(x) => Tag::Refused(x),
-    }
+    let f = number(s, at)?;
+    context(s, b % 8, f.value as u8, f.next)
 }
 
 // The context item of number n with l in the tag octet's length bits; p is the place after the number.
-fn context(s: &[u8], l: u8, n: u8, p: usize) -> Tag
-    ensures { result ≡ context_at s.now l n p }
+#[tactic(auto, using(octets::specs::Rules::tests), unfolding(crate::specs::Reading::context_at))]
+fn context(s: &[u8], l: u8, n: u8, p: usize) -> Result<Tag, Refusal>
+    ensures { tag_of result ≡ context_at s.now l n p }
 {
-    if l == 6 {
-        return Tag::Opening {
+    match l {
+        6 => Ok(Tag::Opening {
             number: n,
             place: p,
-        };
-    }
-    if l == 7 {
-        return Tag::Closing {
+        }),
+        7 => Ok(Tag::Closing {
             number: n,
             place: p,
-        };
-    }
-    let f = length(s, p, l);
-    match f {
-        Field::Is { value, next } => {
-            if s.len() < next {
-                return Tag::Refused(30);
+        }),
+        _ => {
+            let f = length(s, p, l)?;
+            if s.len() < f.next || s.len() - f.next < f.value {
+                return Err(Refusal::ItemEndsEarly);
             }
-            if s.len() - next < value {
-                return Tag::Refused(30);
-            }
-            Tag::Item {
-                kind: 1,
+            Ok(Tag::Item {
+                class: Class::Context,
                 number: n,
                 value: 0,
-                place: next,
-                len: value,
-            }
+                place: f.next,
+                len: f.value,
+            })
         }
-        Field::Bad(x) => Tag::Refused(x),
     }
 }
 
 // The application item of type n that is no boolean, likewise.
-fn application(s: &[u8], l: u8, n: u8, p: usize) -> Tag
+fn application(s: &[u8], l: u8, n: u8, p: usize) -> Result<Tag, Refusal>
     requires { (n ≤ 12) × (n ≡ 1 → ⊥) }
-    ensures { result ≡ application_at s.now l n p }
+    ensures { tag_of result ≡ application_at s.now l n p }
 {
-    let f = length(s, p, l);
-    match f {
-        Field::Is { value, next } => {
-            let x = by_type(s, next, n, value);
-            if 0 < x {
-                return Tag::Refused(x);
-            }
-            Tag::Item {
-                kind: 0,
-                number: n,
-                value: 0,
-                place: next,
-                len: value,
-            }
-        }
-        Field::Bad(x) => Tag::Refused(x),
-    }
+    let f = length(s, p, l)?;
+    by_type(s, f.next, n, f.value)?;
+    Ok(Tag::Item {
+        class: Class::Application,
+        number: n,
+        value: 0,
+        place: f.next,
+        len: f.value,
+    })
 }

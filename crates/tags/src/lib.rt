@@ -5,22 +5,40 @@ pub mod contents;
 mod fields;
 mod kinds;
 
-ghost use Rattle.std.specs.Prelude.{◌≡◌, ℕ};
+ghost use Rattle.std.specs.Prelude.{◌≡◌};
+ghost use Rattle.tags.specs.Head.{kind_of, tag_of};
 ghost use Rattle.tags.specs.Reading.{head_at};
 
-// A field of a tag: its value and the place after it, or the number of its refusal.
+use octets::Refusal;
+
+// A field of a tag: its value and the place after it.
 #[derive(Clone, Copy)]
-pub enum Field {
-    Is { value: usize, next: usize },
-    Bad(u8),
+pub struct Field {
+    pub value: usize,
+    pub next: usize,
 }
 
-// What stands at a place: an item with contents or a boolean (kind 0 application, 1 context), an opening, a closing, or a refusal.
-// `place` is the octet after the tag.
+// The class of an item that is no opening and no closing.
+#[derive(Clone, Copy, Debug, PartialEq, Eq)]
+pub enum Class {
+    Application = 0,
+    Context = 1,
+}
+
+impl Class {
+    // Its kind in an item's record.
+    pub fn kind(self) -> u8
+        ensures { result ≡ kind_of self }
+    {
+        self as u8
+    }
+}
+
+// What stands at a place: an item with contents or a boolean, an opening or a closing. `place` is the octet after the tag.
 #[derive(Clone, Copy)]
 pub enum Tag {
     Item {
-        kind: u8,
+        class: Class,
         number: u8,
         value: u8,
         place: usize,
@@ -34,15 +52,14 @@ pub enum Tag {
         number: u8,
         place: usize,
     },
-    Refused(u8),
 }
 
 // The item at a place, its contents judged. "Octets are judged left to right."
-pub fn head(s: &[u8], at: usize) -> Tag
-    ensures { result ≡ head_at s.now at }
+pub fn head(s: &[u8], at: usize) -> Result<Tag, Refusal>
+    ensures { tag_of result ≡ head_at s.now at }
 {
     if s.len() <= at {
-        return Tag::Refused(30);
+        return Err(Refusal::ItemEndsEarly);
     }
     let b = s[at];
     if b % 16 / 8 == 1 {

@@ -8,6 +8,7 @@ use mathlib.Core.List.{List, ◌++◌}
 use mathlib.Core.Option.{some}
 use lib.ListN.{drop}
 use lib.Seq.{drop_at}
+use Rattle.std.specs.Prelude.{Ok}
 use Rattle.octets.specs.Choice.{pick, given}
 use Rattle.octets.specs.Reading.{oct}
 use Rattle.npdu.specs.Address.{absent, part_address, source_of, destination_of}
@@ -16,6 +17,7 @@ use Rattle.npdu.specs.Fault as Network
 use Rattle.npdu.specs.Layout.{encode, shown as shownHead}
 use Rattle.npdu.specs.Reading.{read_npdu}
 use Rattle.npdu.specs.Valid.{Kept}
+use Rattle.npdu.specs.declared.Header.{Header}
 use Rattle.npdu.proofs.Exact.{reads_written}
 use Rattle.npdu.proofs.Sizes.{fault_none}
 use Rattle.apdu.specs.Fault as Header
@@ -24,7 +26,6 @@ use Rattle.apdu.specs.Fields.{params_at}
 use Rattle.apdu.specs.Layout.{header, flag, first_octet}
 use Rattle.apdu.specs.Reading.{read_apdu}
 use Rattle.apdu.specs.Valid.{Follows}
-use Rattle.apdu.specs.declared.Answer.TheVariants.{Good}
 use Rattle.apdu.specs.declared.Edition.{Edition}
 use Rattle.apdu.proofs.Exact.{written_reads_back}
 use Rattle.apdu.proofs.Headers.{header_length_lem}
@@ -96,8 +97,8 @@ module _ (window : ℕ) (more : Bool) (k : ℕ) (part : List ℕ) where
   follows (Request q) = tt
   follows (ComplexAck q) = tt
 
-  pub header_read : (e : Edition) (m : Message) → Header.fault_of e (pdu_of m window more k) ≡ 0 → read_apdu e (header (pdu_of m window more k) ++ part) ≡ Good (pdu_of m window more k)
-  header_read e m z = let p = pdu_of m window more k in written_reads_back e p part z (follows m) ∙ ap Good (pdu_shown m)
+  pub header_read : (e : Edition) (m : Message) → Header.fault_of e (pdu_of m window more k) ≡ 0 → read_apdu e (header (pdu_of m window more k) ++ part) ≡ Ok (pdu_of m window more k)
+  header_read e m z = let p = pdu_of m window more k in written_reads_back e p part z (follows m) ∙ ap Ok (pdu_shown m)
 
   pub behind_header : (m : Message) → drop (params_at (pdu_of m window more k)) (header (pdu_of m window more k) ++ part) ≡ part
   behind_header m = let p = pdu_of m window more k in drop_at (header p) part (params_at p) (header_length_lem p)
@@ -127,13 +128,14 @@ module _ (e : Edition) (m : Message) (w : Way) (more : Bool) (k : ℕ) (part hea
   network_read : npdu_content e (npdu_of m w more k part) (read_npdu (npdu_of m w more k part)) ≡ apdu_content direct apdu (read_apdu e apdu)
   unfolding accepted
   network_read =
-      npdu_apdu e (npdu_of m w more k part) (accepted 2 (network_head w)) (head_read w apdu ruled) (omega arith) refl
+      let h : Header = record { npdu = network_head w; next = 2 } in
+      npdu_apdu e (npdu_of m w more k part) (Ok h) (head_read w apdu ruled) h refl refl
       ∙ rw (direct_route w, behind_head w apdu)
 
   apdu_read : apdu_content direct apdu (read_apdu e apdu) ≡ message direct (parts_in m w.window more k) apdu
   apdu_read =
       let p = pdu_of m w.window more k in
-      apdu_good_lem e direct apdu p refl (header_read w.window more k part e m sound) (ap (parts_of p) (first_octet_lem w.window more k part m))
+      apdu_good_lem e direct apdu (Ok p) p (sym (header_read w.window more k part e m sound)) refl (ap (parts_of p) (first_octet_lem w.window more k part m))
 
   -- whichever of the two types
   by_type_lem : (oct head 0 ≡ 5) ⊎ (oct head 0 ≡ 6) → content_of (heard_of e head) (npdu_of m w more k part) ≡ npdu_content e (npdu_of m w more k part) (read_npdu (npdu_of m w more k part))

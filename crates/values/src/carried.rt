@@ -1,43 +1,32 @@
 // What a service carries: the value of a property, read or to be written.
-use services::{Service, Span, Target};
+use services::{ReadAck, Service, Span, Target, WriteRequest};
 
-// `priority`: 0 where there is none.
 #[derive(Clone, Copy)]
 pub struct Held {
     pub target: Target,
     pub value: Span,
-    pub priority: u8,
+    pub priority: Option<u8>,
 }
 
-#[derive(Clone, Copy)]
-pub enum Carried {
-    Value(Held),
-    Nothing,
-}
-
-fn with(target: Target, value: Span, priority: u8) -> Carried {
-    Carried::Value(Held {
-        target,
-        value,
-        priority,
-    })
-}
-
-pub fn of(v: Service) -> Carried {
+pub fn of(v: Service) -> Option<Held> {
     match v {
-        Service::ReadPropertyAck(r) => {
-            let t = r.target;
-            let w = r.value;
-            with(t, w, 0)
-        }
-        Service::WriteProperty(r) => {
-            let t = r.target;
-            let w = r.value;
-            with(t, w, r.priority)
-        }
-        Service::ReadProperty(_) => Carried::Nothing,
-        Service::WhoIs(_) => Carried::Nothing,
-        Service::IAm(_) => Carried::Nothing,
-        Service::Error(_) => Carried::Nothing,
+        Service::ReadPropertyAck(ReadAck { target, value }) => Some(Held {
+            target,
+            value,
+            priority: None,
+        }),
+        Service::WriteProperty(
+            WriteRequest {
+                target,
+                value,
+                ranked,
+                priority,
+            },
+        ) => Some(Held {
+            target,
+            value,
+            priority: ranked.then_some(priority),
+        }),
+        Service::ReadProperty(_) | Service::WhoIs(_) | Service::IAm(_) | Service::Error(_) => None,
     }
 }

@@ -1,35 +1,47 @@
 // An item of a value, from the record that `items::list` wrote of it (document 01: "kind, number, depth, boolean value else 0, contents place and
 // length (4 each, high octet first)"). The depth is told by the borders of groups.
+use crate::span;
 
-// `kind`: 0 application, 1 context, 2 opening, 3 closing; `place`: the octet after the tag.
-#[derive(Clone, Copy)]
-pub struct Item {
-    pub kind: u8,
-    pub number: u8,
-    pub value: u8,
-    pub place: usize,
-    pub len: usize,
+#[derive(Clone, Copy, PartialEq, Eq)]
+pub enum Kind {
+    Application,
+    Context,
+    Opening,
+    Closing,
 }
 
-// The i-th item; a closing tag where there is no such record.
-pub fn item_of(records: &[u8], i: usize) -> Item {
-    if i < 2048 {
-        let p = i * 12;
-        if p + 12 <= records.len() {
-            return Item {
-                kind: records[p],
-                number: records[p + 1],
-                value: records[p + 3],
-                place: octets::value(records, p + 4, 4) as usize,
-                len: octets::value(records, p + 8, 4) as usize,
-            };
+// `left`: the octets behind the tag, to the value's end.
+#[derive(Clone, Copy)]
+pub struct Item<'a> {
+    pub kind: Kind,
+    pub number: u8,
+    pub value: u8,
+    pub contents: &'a [u8],
+    pub left: usize,
+}
+
+impl<'a> Item<'a> {
+    // The item of a value that a record tells.
+    pub fn of(s: &'a [u8], record: &[u8; 12]) -> Item<'a> {
+        let [kind, number, _, value, a, b, c, d, e, f, g, h] = *record;
+        let place = u32::from_be_bytes([a, b, c, d]) as usize;
+        Item {
+            kind: match kind {
+                0 => Kind::Application,
+                1 => Kind::Context,
+                2 => Kind::Opening,
+                _ => Kind::Closing,
+            },
+            number,
+            value,
+            contents: span(s, place, u32::from_be_bytes([e, f, g, h]) as usize),
+            left: s.len().saturating_sub(place),
         }
     }
-    Item {
-        kind: 3,
-        number: 0,
-        value: 0,
-        place: 0,
-        len: 0,
-    }
+}
+
+// The first n records of an area; no more than it holds.
+pub fn laid(area: &[u8], n: usize) -> &[[u8; 12]] {
+    let (records, _) = area.as_chunks();
+    records.get(..n).unwrap_or(records)
 }

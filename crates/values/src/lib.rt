@@ -1,5 +1,5 @@
 // Decoded values: the services' parameters in words, from `services::read` and the records of `items::list`.
-// Text goes into a lent area from a place on; what is too long for the area is cut, and the line says how many octets are left.
+// Text goes to a pen; what is too long for its area is cut, and the line says how many octets are left.
 #![tactic(auto)]
 
 mod carried;
@@ -12,11 +12,5 @@ pub mod table;
 
 // The octets of a span; none where there are no such.
 pub fn span(s: &[u8], at: usize, len: usize) -> &[u8] {
-    if s.len() < at {
-        return &s[..0];
-    }
-    if s.len() - at < len {
-        return &s[..0];
-    }
-    &s[at..at + len]
+    s.get(at..).and_then(|t| t.get(..len)).unwrap_or(&[])
 }

@@ -1,74 +1,53 @@
 // A value's items as a line says them, from the records of `items::list`: commas between, a group in braces behind its number.
-use crate::item::{Item, item_of};
-use crate::{contents, long, span};
-use words::{fill, named, one, put, room};
+use crate::item::{Item, Kind};
+use crate::{contents, long};
+use words::Pen;
+use words::names::TYPES;
+
+// The room for an item without its long contents, and what is said of a list that is cut.
+const ROOM: usize = 192;
 
 // An item: an application item's contents and its type; a context item's number and its octets; the borders of a group.
-fn said(book: &[u8], s: &[u8], r: Item, out: &mut [u8], at: usize) -> usize {
-    let c = span(s, r.place, r.len);
-    if r.kind == 0 {
-        let a = contents::text(book, r.number, r.value, c, false, out, at);
-        let b = put(out, a, b" (");
-        let d = named(book, b't', r.number as u64, out, b);
-        return one(41, out, d);
-    }
-    if r.kind == 1 {
-        let a = fill(book, b"[#1] ", r.number as u64, 0, 0, out, at);
-        return long::octets(book, c, out, a);
-    }
-    if r.kind == 2 {
-        return fill(book, b"[#1] {", r.number as u64, 0, 0, out, at);
-    }
-    put(out, at, b"}")
-}
-
-// What stands in front of an item: nothing in front of the first.
-fn between(book: &[u8], i: usize, tight: bool, out: &mut [u8], at: usize) -> usize {
-    if i == 0 {
-        return at;
-    }
-    if tight {
-        return one(32, out, at);
-    }
-    put(out, at, b", ")
-}
-
-// A list that is too long for the area: how many octets behind this tag are left.
-fn cut(book: &[u8], s: &[u8], place: usize, out: &mut [u8], at: usize) -> usize {
-    let a = one(32, out, at);
-    long::left(book, std::num::wrapping_sub_usize(s.len(), place), out, a)
-}
-
-// The i-th item behind what stands in front of it; `opened`: the item before it opened a group.
-fn next(
-    book: &[u8],
-    s: &[u8],
-    r: Item,
-    i: usize,
-    opened: bool,
-    out: &mut [u8],
-    at: usize,
-) -> usize {
-    let a = between(book, i, opened || r.kind == 3, out, at);
-    said(book, s, r, out, a)
-}
-
-// A value of n items in words, from their records.
-pub fn text(book: &[u8], s: &[u8], n: usize, records: &[u8], out: &mut [u8], at: usize) -> usize {
-    if n == 0 {
-        return put(out, at, b"nothing");
-    }
-    let mut to = at;
-    let mut opened = false;
-    let mut i = 0;
-    while i < n {
-        let r = item_of(records, i);
-        if room(out, to) < 192 {
-            return cut(book, s, r.place, out, to);
+fn said(pen: &mut Pen, item: Item) {
+    match item.kind {
+        Kind::Application => {
+            contents::text(pen, item.number, item.value, item.contents, false);
+            pen.put(b" (");
+            pen.name(TYPES.name(u32::from(item.number)));
+            pen.one(b')');
         }
-        to = next(book, s, r, i, opened, out, to);
-        opened = r.kind == 2;
-        i += 1;
+        Kind::Context => {
+            write!(pen, "[{}] ", item.number);
+            long::octets(pen, item.contents);
+        }
+        Kind::Opening => write!(pen, "[{}] {{", item.number),
+        Kind::Closing => pen.one(b'}'),
     }
-    to
+}
+
+// What stands in front of an item, behind another or none.
+fn between(before: Option<Kind>, kind: Kind) -> &'static [u8] {
+    match (before, kind) {
+        (None, _) => b"",
+        (Some(Kind::Opening), _) | (_, Kind::Closing) => b" ",
+        _ => b", ",
+    }
+}
+
+// A value's items in words, from their records. Of a list that is too long for the area, how many octets behind this tag are left.
+pub fn text(pen: &mut Pen, s: &[u8], records: &[[u8; 12]]) {
+    if records.is_empty() {
+        pen.put(b"nothing");
+    }
+    let mut before = None;
+    for record in records {
+        let item = Item::of(s, record);
+        if pen.room() < ROOM {
+            pen.one(b' ');
+            return long::left(pen, item.left);
+        }
+        pen.put(between(before, item.kind));
+        said(pen, item);
+        before = Some(item.kind);
+    }
 }

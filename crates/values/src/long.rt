@@ -1,132 +1,80 @@
 // Contents of any length as text: octets, characters and bits. Where fewer than 96 octets of the area are left, the rest is cut and counted.
-use words::{fill, one, put, room, two};
+use words::Pen;
+
+const ROOM: usize = 96;
 
 // What is said of contents that were cut.
-pub fn left(book: &[u8], n: usize, out: &mut [u8], at: usize) -> usize {
-    fill(book, b".. #1 octets left", n as u64, 0, 0, out, at)
+pub fn left(pen: &mut Pen, n: usize) {
+    write!(pen, ".. {n} octets left");
 }
 
 // Octets as hexadecimal digits.
-pub fn octets(book: &[u8], c: &[u8], out: &mut [u8], at: usize) -> usize {
-    let mut to = at;
-    let mut i = 0;
-    while i < c.len() {
-        if room(out, to) < 96 {
-            return left(book, c.len() - i, out, to);
+pub fn octets(pen: &mut Pen, c: &[u8]) {
+    for (i, x) in c.iter().enumerate() {
+        if pen.room() < ROOM {
+            return left(pen, c.len() - i);
         }
-        to = two(c[i], out, to);
-        i += 1;
+        pen.hex(*x);
     }
-    to
 }
 
-// What stands in front of a character of a quoted text: a quote is written twice in a table and behind a backslash in a line, as is a
-// backslash in both; 0 for nothing.
-fn guard(x: u8, table: bool) -> u8 {
-    if x == 92 {
-        return 92;
+// A character of a quoted text: controls as \xNN; a quote is written twice in a table and behind a backslash in a line, as is a backslash in both.
+fn character(pen: &mut Pen, x: u8, table: bool) {
+    match x {
+        0..=31 | 127 => write!(pen, "\\x{x:02X}"),
+        b'"' if table => pen.put(b"\"\""),
+        b'"' | b'\\' => pen.put(&[b'\\', x]),
+        _ => pen.one(x),
     }
-    if x == 34 {
-        if table {
-            return 34;
-        }
-        return 92;
-    }
-    0
-}
-
-// A character of a quoted text: controls as \xNN.
-fn character(book: &[u8], x: u8, table: bool, out: &mut [u8], at: usize) -> usize {
-    if x < 32 || x == 127 {
-        let a = put(out, at, b"\\x");
-        return two(x, out, a);
-    }
-    let g = guard(x, table);
-    if g == 0 {
-        return one(x, out, at);
-    }
-    let a = one(g, out, at);
-    one(x, out, a)
 }
 
 // Characters of one octet each in quotes: ASCII and UTF-8 as they stand.
-fn plain(book: &[u8], c: &[u8], table: bool, out: &mut [u8], at: usize) -> usize {
-    let mut to = one(34, out, at);
-    let mut i = 1;
-    while i < c.len() {
-        if room(out, to) < 96 {
-            let a = put(out, to, b"\" ");
-            return left(book, c.len() - i, out, a);
+fn plain(pen: &mut Pen, c: &[u8], table: bool) {
+    pen.one(b'"');
+    for (i, x) in c.iter().enumerate() {
+        if pen.room() < ROOM {
+            pen.put(b"\" ");
+            return left(pen, c.len() - i);
         }
-        to = character(book, c[i], table, out, to);
-        i += 1;
+        character(pen, *x, table);
     }
-    one(34, out, to)
-}
-
-// The number of a set of characters.
-fn set(book: &[u8], x: u8, out: &mut [u8], at: usize) -> usize {
-    fill(book, b"set #1: ", x as u64, 0, 0, out, at)
+    pen.one(b'"');
 }
 
 // A text: set 0 in quotes, another set as its number and octets.
-pub fn characters(book: &[u8], c: &[u8], table: bool, out: &mut [u8], at: usize) -> usize {
-    if c.len() == 0 {
-        return at;
-    }
-    if c[0] == 0 {
-        return plain(book, c, table, out, at);
-    }
-    let a = set(book, c[0], out, at);
-    octets(book, &c[1..], out, a)
-}
-
-// The first n bits of an octet, as digits.
-fn digits(x: u8, n: u8, out: &mut [u8], at: usize) -> usize {
-    let mut to = at;
-    let mut rest = x;
-    let mut k = 0;
-    while k < n {
-        to = one(48 + rest / 128 % 2, out, to);
-        rest = rest % 128 * 2;
-        k += 1;
-    }
-    to
-}
-
-// The bits of the i-th octet; as many of the last one as are used.
-fn bits_at(c: &[u8], i: usize, out: &mut [u8], at: usize) -> usize {
-    if c.len() <= i {
-        return at;
-    }
-    if c.len() - i == 1 {
-        return digits(c[i], 8 - c[0] % 8, out, at);
-    }
-    digits(c[i], 8, out, at)
-}
-
-// Bits, the first first.
-pub fn bits(book: &[u8], c: &[u8], out: &mut [u8], at: usize) -> usize {
-    let mut to = at;
-    let mut i = 1;
-    while i < c.len() {
-        if room(out, to) < 96 {
-            return left(book, c.len() - i, out, to);
+pub fn characters(pen: &mut Pen, c: &[u8], table: bool) {
+    match c {
+        [] => {}
+        [0, text @ ..] => plain(pen, text, table),
+        [set, text @ ..] => {
+            write!(pen, "set {set}: ");
+            octets(pen, text);
         }
-        to = bits_at(c, i, out, to);
-        i += 1;
     }
-    to
+}
+
+// Bits, the first first; as many of the last octet as are used.
+pub fn bits(pen: &mut Pen, c: &[u8]) {
+    let [unused, octets @ ..] = c else {
+        return;
+    };
+    for (i, x) in octets.iter().enumerate() {
+        if pen.room() < ROOM {
+            return left(pen, octets.len() - i);
+        }
+        if i + 1 < octets.len() {
+            write!(pen, "{x:08b}");
+        } else {
+            let spare = unused % 8;
+            write!(pen, "{:01$b}", x >> spare, usize::from(8 - spare));
+        }
+    }
 }
 
 // Octets as hexadecimal digits, each behind a space.
-pub fn row(c: &[u8], out: &mut [u8], at: usize) -> usize {
-    let mut to = at;
-    let mut i = 0;
-    while i < c.len() {
-        to = one(32, out, to);
-        to = two(c[i], out, to);
-        i += 1;
+pub fn row(pen: &mut Pen, c: &[u8]) {
+    for x in c {
+        pen.one(b' ');
+        pen.hex(*x);
     }
-    to
 }

@@ -1,179 +1,127 @@
 // Words on a line: text, numbers, and the standard's names for numbers, put into a lent area.
-// Each call takes the area and a place, writes from there as far as the area goes, and answers the place after what it wrote.
 #![tactic(auto)]
 
-mod index;
-mod names;
-mod template;
+pub mod names;
 
-ghost use Rattle.std.specs.Prelude.{◌+◌, ◌<◌, ◌≤◌, length};
+ghost use Rattle.std.specs.Prelude.{◌≡◌, ◌+◌, ◌<◌, ◌≤◌, length, min};
 
-pub use names::book;
-pub use template::{fill, fill_five, named, station};
+use crate::names::Name;
+use std::fmt;
 
-// Text; one that does not fit is not written.
-pub fn put(out: &mut [u8], at: usize, text: &[u8]) -> usize
-    ensures { result ≤ length out.old }
-{
-    if out.len() < at {
-        return out.len();
-    }
-    if out.len() - at < text.len() {
-        return at;
-    }
-    octets::copy(text, out, at);
-    at + text.len()
+static DIGITS: [u8; 16] = *b"0123456789ABCDEF";
+
+// An area to write in, and the place where the next octet goes.
+#[derive(Drop)]
+pub struct Pen<'a> {
+    out: &'a mut [u8],
+    at: usize,
+    ghost inside: { at ≤ length out.now },
 }
 
-// One octet.
-pub fn one(x: u8, out: &mut [u8], at: usize) -> usize {
-    if at < out.len() {
-        out[at] = x;
-        return at + 1;
+impl<'a> Pen<'a> {
+    // A pen from a place of an area on; from the area's end where there is no such place.
+    pub fn new(out: &'a mut [u8], at: usize) -> Pen<'a>
+        ensures { result.at ≡ min at (length out.old) }
+    {
+        let at = at.min(out.len());
+        Pen { out, at }
     }
-    at
-}
 
-// How many octets the area has from a place on.
-pub fn room(out: &[u8], at: usize) -> usize {
-    if out.len() < at {
-        return 0;
+    // The place after what was written.
+    pub fn at(&self) -> usize
+        ensures place { result ≡ self.now.at }
+        ensures within { result ≤ length self.now.out.now }
+    {
+        self.at
     }
-    out.len() - at
-}
 
-// How many decimal digits a number below ten thousand has.
-fn width(n: u64) -> usize
-    ensures { result ≤ 4 }
-{
-    if n < 10 {
-        return 1;
+    // How many octets the area has from there on.
+    pub fn room(&self) -> usize
+        ensures { result + self.now.at ≡ length self.now.out.now }
+    {
+        self.out.len() - self.at
     }
-    if n < 100 {
-        return 2;
-    }
-    if n < 1000 {
-        return 3;
-    }
-    4
-}
 
-// The same of any number: four digits at a time.
-fn widths(n: u64) -> usize
-    ensures { result ≤ 20 }
-{
-    if n < 10000 {
-        return width(n);
+    // What was written, from the area's front on.
+    pub fn written(&self) -> &[u8]
+        ensures { length result.now ≡ self.now.at }
+    {
+        &self.out[..self.at]
     }
-    if n < 100000000 {
-        return 4 + width(n / 10000);
-    }
-    if n < 1000000000000 {
-        return 8 + width(n / 100000000);
-    }
-    if n < 10000000000000000 {
-        return 12 + width(n / 1000000000000);
-    }
-    16 + width(n / 10000000000000000)
-}
 
-// Two decimal digits at a place.
-fn pair(n: u8, out: &mut [u8], at: usize)
-    requires { at + 2 ≤ length out.old }
-{
-    out[at] = 48 + n / 10;
-    out[at + 1] = 48 + n % 10;
-}
-
-// The last k decimal digits of a number at a place, two at a time.
-fn digits(n: u64, k: usize, out: &mut [u8], at: usize)
-    requires { at + k ≤ length out.old }
-{
-    let mut left = n;
-    let mut i = k;
-    while 1 < i {
-        i -= 2;
-        pair((left % 100) as u8, out, at + i);
-        left = left / 100;
-    }
-    if i == 1 {
-        out[at] = 48 + (left % 10) as u8;
-    }
-}
-
-// Four decimal digits at a place.
-fn four(n: u16, out: &mut [u8], at: usize)
-    requires { (n < 10000) × (at + 4 ≤ length out.old) }
-{
-    pair((n / 100) as u8, out, at);
-    pair((n % 100) as u8, out, at + 2);
-}
-
-// A number of at most four digits at a place.
-fn front(n: u16, out: &mut [u8], at: usize) -> usize
-    requires { (n < 10000) × (at + 4 ≤ length out.old) }
-    ensures { result ≤ at + 4 }
-{
-    if n < 10 {
-        one(48 + n as u8, out, at);
-        return at + 1;
-    }
-    if n < 100 {
-        pair(n as u8, out, at);
-        return at + 2;
-    }
-    if n < 1000 {
-        one(48 + (n / 100) as u8, out, at);
-        pair((n % 100) as u8, out, at + 1);
-        return at + 3;
-    }
-    four(n, out, at);
-    at + 4
-}
-
-// A number of at most eight digits at a place: what nearly all are, so without counting them.
-fn eight(n: u32, out: &mut [u8], at: usize) -> usize
-    requires { (n < 100000000) × (at + 8 ≤ length out.old) }
-{
-    if n < 10000 {
-        return front(n as u16, out, at);
-    }
-    let a = front((n / 10000) as u16, out, at);
-    four((n % 10000) as u16, out, a);
-    a + 4
-}
-
-// A number in decimal.
-pub fn number(n: u64, out: &mut [u8], at: usize) -> usize {
-    if n < 10 {
-        return one(48 + n as u8, out, at);
-    }
-    if out.len() < at {
-        return at;
-    }
-    if n < 100000000 {
-        if 8 <= out.len() - at {
-            return eight(n as u32, out, at);
+    // Octets; what does not fit is not written at all.
+    #[inline]
+    pub fn put(&mut self, octets: &[u8])
+        ensures fits { length octets.now + self.old.at ≤ length self.old.out.now → self.new.at ≡ self.old.at + length octets.now }
+        ensures full { length self.old.out.now < length octets.now + self.old.at → self.new.at ≡ self.old.at }
+    {
+        if octets.len() <= self.room() {
+            let end = self.at + octets.len();
+            self.out[self.at..end].copy_from_slice(octets);
+            self.at = end;
         }
     }
-    let k = widths(n);
-    if out.len() - at < k {
-        return at;
+
+    // One octet.
+    #[inline]
+    pub fn one(&mut self, x: u8)
+        ensures { self.new.at ≡ min (self.old.at + 1) (length self.old.out.now) }
+    {
+        if self.at < self.out.len() {
+            self.out[self.at] = x;
+            self.at += 1;
+        }
     }
-    digits(n, k, out, at);
-    at + k
+
+    // An octet as two hexadecimal digits.
+    pub fn hex(&mut self, x: u8)
+        ensures { self.old.at ≤ self.new.at }
+    {
+        self.one(DIGITS[usize::from(x / 16)]);
+        self.one(DIGITS[usize::from(x % 16)]);
+    }
+
+    // A number in decimal, as `{}` writes it. It, names and stations are most of what is said of a trunk, and a format costs some hundred instructions.
+    pub fn number<N: Into<u64>>(&mut self, n: N)
+        ensures { self.old.at ≤ self.new.at }
+    {
+        let n = n.into();
+        if n < 10 {
+            return self.one(b'0' + n as u8);
+        }
+        self.put(itoa::Buffer::new().format(n).as_bytes());
+    }
+
+    // A number by its name, as `{}` writes it.
+    pub fn name(&mut self, n: Name)
+        ensures { self.old.at ≤ self.new.at }
+    {
+        if n.name.is_empty() {
+            self.put(n.own.as_bytes());
+            return self.number(n.number);
+        }
+        self.put(n.name.as_bytes());
+    }
+
+    // A station's number; 255 is all of them.
+    pub fn station(&mut self, n: u8)
+        ensures { self.old.at ≤ self.new.at }
+    {
+        match n {
+            255 => self.put(b"all"),
+            _ => self.number(n),
+        }
+    }
+
+    // What `write!` calls: nothing fails, what does not fit is left out.
+    pub fn write_fmt<D: fmt::Display + Drop>(&mut self, text: D) {
+        let _ = fmt::Write::write_fmt(self, text);
+    }
 }
 
-fn digit(x: u8) -> u8 {
-    let d = x % 16;
-    if d < 10 {
-        return 48 + d;
+impl fmt::Write for Pen<'_> {
+    fn write_str(&mut self, s: &str) -> fmt::Result {
+        self.put(s.as_bytes());
+        Ok(())
     }
-    55 + d
-}
-
-// An octet as two hexadecimal digits.
-pub fn two(x: u8, out: &mut [u8], at: usize) -> usize {
-    let a = one(digit(x / 16), out, at);
-    one(digit(x), out, a)
 }

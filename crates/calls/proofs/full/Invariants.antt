@@ -1,3 +1,4 @@
+-- What was read lies in the area.
 use Rattle.std.proofs.Common.{◌-◌, ◌≤◌, length}
 use Rattle.calls.proofs.full.Given as goal
 

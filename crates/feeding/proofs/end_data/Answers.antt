@@ -9,4 +9,4 @@ pub returns-then-left : goal.returns-then-left
 returns-then-left c = search (rules, ends_good)
 
 pub returns : goal.returns
-returns c = search (rules, ends_bad)
+returns c = let h = rw c.from-end.ensures at c.data_run-reg.ensures in search (rules, ends_bad)

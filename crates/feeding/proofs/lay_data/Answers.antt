@@ -12,4 +12,4 @@ pub lay_run-requires : goal.lay_run-requires
 lay_run-requires c = search (rules, run_fits)
 
 pub returns : goal.returns
-returns c = search (rules, run_onward)
+returns c = let h = rw c.from.ensures at c.least.ensures in search (rules, run_onward)

@@ -9,7 +9,7 @@ pub returns-then-got-ge5 : goal.returns-then-got-ge5
 returns-then-got-ge5 c = search (rules, lay_whole)
 
 pub loop-i-preserved : goal.loop-i-preserved
-loop-i-preserved c = search (rules, lay_more)
+loop-i-preserved c = rw c.from.ensures (search (rules, lay_more))
 
 pub returns : goal.returns
 returns c = search (rules, lay_end)

@@ -1,11 +1,7 @@
-use Rattle.std.specs.Prelude.{◌+◌, ◌*◌, ◌≤◌, length}
-use Rattle.item_judge.specs.Kinds.{groups_of}
+use Rattle.std.specs.Prelude.{◌-◌, ◌*◌, ◌/◌, ◌≤◌, length}
 use Rattle.item_judge.proofs.Walk.{Judging}
 use Rattle.item_judge.proofs.judge_all.Given as goal
 
-abbrev pub invariant-loop-left : goal.invariant-loop-left
-invariant-loop-left l =
-    (l.p + 12 * l.left ≤ length l.records) × (l.g.depth ≤ 16) × (l.size + 16500 * l.left ≤ 33792000) × Judging l.records l.source (groups_of l.g) l.size l.p l.left
-
-abbrev pub decreases-loop-left : goal.decreases-loop-left
-decreases-loop-left l = l.left
+abbrev pub invariant-loop-i : goal.invariant-loop-i
+invariant-loop-i l =
+    (l.size ≤ 16500 * l.i) × Judging l.records l.source l.groups l.size (12 * l.i) (length l.records / 12 - l.i)

@@ -6,4 +6,4 @@ pub returns-then-s-gt16384 : goal.returns-then-s-gt16384
 returns-then-s-gt16384 c = search (rules, answer_over)
 
 pub returns : goal.returns
-returns c = search (rules, answer_within)
+returns c = answer_within _ _ c.if-s-gt16384.false _ c.whole_at.ensures

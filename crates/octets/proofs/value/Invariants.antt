@@ -1,9 +1,6 @@
-use Rattle.std.specs.Prelude.{◌-◌, ◌≡◌, ◌≤◌, ◌<◌, ◌^◌}
+use Rattle.std.specs.Prelude.{◌≡◌, ◌<◌, ◌^◌}
 use Rattle.octets.specs.Numbers.{value_at}
 use Rattle.octets.proofs.value.Given as goal
 
 abbrev pub invariant-loop-i : goal.invariant-loop-i
-invariant-loop-i l = (l.i ≤ l.n) × (l.v ≡ value_at l.s l.p l.i) × (l.v < 256 ^ l.i)
-
-abbrev pub decreases-loop-i : goal.decreases-loop-i
-decreases-loop-i l = l.n - l.i
+invariant-loop-i l = (l.v ≡ value_at l.s l.p l.i) × (l.v < 256 ^ l.i)

@@ -1,11 +1,22 @@
-use Rattle.rebuild.proofs.Ways.{takes_60, takes_open, takes_new}
+use Rattle.std.proofs.Common.{◌≡◌}
+use Rattle.rebuild.proofs.Ways.{whole_left, whole_lent, takes_60, takes_open, takes_new}
 use Rattle.rebuild.proofs.take.Goals as goal
 
 pub returns-then-area-ne65536 : goal.returns-then-area-ne65536
 returns-then-area-ne65536 c = takes_60 c.args.slots c.args.g c.args.octets.now c.args.area.now c.if-area-ne65536.true c.kept.ensures
 
-pub returns-in-At : goal.returns-in-At
-returns-in-At c = takes_open c.args.slots c.args.g c.args.octets.now c.args.area.now c.if-area-ne65536.false c.open_slot.result c.open_slot.ensures c.in-At.s c.in-At.is c.take_open.ensures
+pub returns-in-Some : goal.returns-in-Some
+returns-in-Some c =
+    let a = c.args in
+    let h = c.if-area-ne65536.false in
+    let q : c.unwrap-area.result.now ≡ a.area.now = whole_lent a.slots a.g a.octets.now a.area.now h (rw c.unwrap-area.ensures at c.first_chunk_mut.ensures.cases) in
+    rw (whole_left a.slots a.g a.octets.now a.area.now h c.take_open.new.area)
+    (takes_open a.slots a.g a.octets.now a.area.now h c.open_slot.result c.open_slot.ensures c.in-Some.s c.in-Some.is (rw q at c.take_open.ensures))
 
-pub returns-in-Nothing : goal.returns-in-Nothing
-returns-in-Nothing c = takes_new c.args.slots c.args.g c.args.octets.now c.args.area.now c.if-area-ne65536.false c.open_slot.result c.open_slot.ensures c.in-Nothing.is c.take_new.ensures
+pub returns-in-None : goal.returns-in-None
+returns-in-None c =
+    let a = c.args in
+    let h = c.if-area-ne65536.false in
+    let q : c.unwrap-area.result.now ≡ a.area.now = whole_lent a.slots a.g a.octets.now a.area.now h (rw c.unwrap-area.ensures at c.first_chunk_mut.ensures.cases) in
+    rw (whole_left a.slots a.g a.octets.now a.area.now h c.take_new.new.area)
+    (takes_new a.slots a.g a.octets.now a.area.now h c.open_slot.result c.open_slot.ensures c.in-None.is (rw q at c.take_new.ensures))

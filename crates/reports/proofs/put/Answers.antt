@@ -1,5 +1,6 @@
-use Rattle.reports.proofs.Octets.{stored}
+use Rattle.std.proofs.Common.{sym, ◌∙◌}
+use Rattle.reports.proofs.Octets.{octets_of_lem}
 use Rattle.reports.proofs.put.Goals as goal
 
 pub returns : goal.returns
-returns c = stored c.args.r c.args.out.now c.requires
+returns c = c.copy_from_slice.ensures.after ∙ rw c.to_be_bytes.ensures (sym (octets_of_lem c.args.r))

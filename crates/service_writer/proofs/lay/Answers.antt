@@ -1,12 +1,8 @@
-use Rattle.std.proofs.Common.{arith}
 use Rattle.service_writer.proofs.Promise
 use Rattle.service_writer.proofs.lay.Goals as goal
 
-pub returns-then-x-gt0 : goal.returns-then-x-gt0
-returns-then-x-gt0 c = Promise.lay_refused _ c.args.front.now c.args.value.now c.args.behind.now _ c.if-x-gt0.true
-
 pub returns-then-out-n : goal.returns-then-out-n
-returns-then-out-n c = Promise.lay_short _ c.args.front.now c.args.value.now c.args.behind.now _ (omega (arith, c.if-x-gt0.false)) c.if-out-n.true
+returns-then-out-n c = Promise.lay_short c.args.front.now c.args.value.now c.args.behind.now _ c.if-out-n.true
 
 pub returns : goal.returns
-returns c = Promise.lay_good _ c.args.front.now c.args.value.now c.args.behind.now _ (omega (arith, c.if-x-gt0.false)) c.if-out-n.false _ _ _ c.copy.ensures c.copy-2.ensures c.copy-3.ensures
+returns c = Promise.lay_good c.args.front.now c.args.value.now c.args.behind.now _ c.if-out-n.false _ _ _ c.copy.ensures c.copy-2.ensures c.copy-3.ensures

@@ -13,7 +13,7 @@ returns-in-ReadPropertyAck c = Promise.as_ack _ _ _ _ _ _ c.in-ReadPropertyAck.i
 
 pub returns-in-WriteProperty : goal.returns-in-WriteProperty
 unfolding octets_of
-returns-in-WriteProperty c = Promise.as_request _ _ _ _ _ _ c.in-WriteProperty.is c.write_ranked-in-WriteProperty.ensures
+returns-in-WriteProperty c = Promise.as_request _ _ _ _ _ _ c.in-WriteProperty.is _ c.then_some-priority.ensures c.write_ranked-in-WriteProperty.ensures
 
 pub returns-in-WhoIs : goal.returns-in-WhoIs
 unfolding octets_of

@@ -1,21 +1,36 @@
 use Rattle.std.proofs.Common.{rules}
-use Rattle.services.proofs.Ways.{layout_of, layout_ack, none_ack, none_kind}
+use Rattle.services.proofs.Ways.{layout_rows}
 use Rattle.services.proofs.layout.Goals as goal
 
-pub returns-then-kind-eq0 : goal.returns-then-kind-eq0
-returns-then-kind-eq0 c = λ rs w. search (rules, layout_of)
+pub returns-in-0-eq12 : goal.returns-in-0-eq12
+returns-in-0-eq12 c = λ rs w. search (rules, layout_rows)
 
-pub returns-then-kind-eq1 : goal.returns-then-kind-eq1
-returns-then-kind-eq1 c = λ rs w. search (rules, layout_of)
+pub returns-in-0-eq15 : goal.returns-in-0-eq15
+returns-in-0-eq15 c = λ rs w. search (rules, layout_rows)
 
-pub returns-then-choice-eq12 : goal.returns-then-choice-eq12
-returns-then-choice-eq12 c = λ rs w. search (rules, layout_ack)
+pub returns-in-3-eq12 : goal.returns-in-3-eq12
+returns-in-3-eq12 c = λ rs w. search (rules, layout_rows)
 
-pub returns-then-kind-eq3 : goal.returns-then-kind-eq3
-returns-then-kind-eq3 c = λ rs w. search (rules, none_ack)
+pub returns-in-1-eq8 : goal.returns-in-1-eq8
+returns-in-1-eq8 c = λ rs w. search (rules, layout_rows)
 
-pub returns-then-kind-eq5 : goal.returns-then-kind-eq5
-returns-then-kind-eq5 c = λ rs w. search (rules, layout_of)
+pub returns-in-1-eq0 : goal.returns-in-1-eq0
+returns-in-1-eq0 c = λ rs w. search (rules, layout_rows)
 
-pub returns : goal.returns
-returns c = λ rs w. search (rules, none_kind)
+pub returns-in-5-eq12 : goal.returns-in-5-eq12
+returns-in-5-eq12 c = λ rs w. search (rules, layout_rows)
+
+pub returns-in_default : goal.returns-in_default
+returns-in_default c = λ rs w. search (rules, layout_rows)
+
+pub returns-in_default-2 : goal.returns-in_default-2
+returns-in_default-2 c = λ rs w. search (rules, layout_rows)
+
+pub returns-in_default-3 : goal.returns-in_default-3
+returns-in_default-3 c = λ rs w. search (rules, layout_rows)
+
+pub returns-in_default-4 : goal.returns-in_default-4
+returns-in_default-4 c = λ rs w. search (rules, layout_rows)
+
+pub returns-in_default-5 : goal.returns-in_default-5
+returns-in_default-5 c = λ rs w. search (rules, layout_rows)

@@ -1,30 +1,19 @@
-use Rattle.std.proofs.Common.{◌≡◌, arith, rules}
-use Rattle.state.specs.Calls.{judge_of}
-use Rattle.state.proofs.Fair.{judge_sized, judge_ways, stands_refused, stands_linked}
-use Rattle.state.proofs.still.Goals.{then-link_fair+then-area-le1+else-all_free+else-slots_fair, then-link_fair+else-area-le1, else-link_fair}
+use Rattle.std.proofs.Common.{refl, arith, length-take-le}
+use Rattle.std.proofs.lemmas.Result.{err_from_is_err_and}
+use Rattle.octets.specs.Refusal.{number_some}
+use Rattle.state.proofs.Fair.{judged_size, stands_refused, stands_linked}
 use Rattle.state.proofs.still.Goals as goal
 
-pub returns-then-area-ne-SIZE : goal.returns-then-area-ne-SIZE
-returns-then-area-ne-SIZE c = stands_refused _ _ 60 (λ z. omega arith) (judge_sized _ c.if-area-ne-SIZE.true) c.unlinked.ensures
+pub returns-in_err-judge : goal.returns-in_err-judge
+returns-in_err-judge c =
+    let p = err_from_is_err_and c.from_residual.result c.from_residual.ensures.1 in
+    rw (p.1, p.2) (stands_refused _ _ _ (λ z. omega (arith, number_some c.in_err-judge.field-0.0)) c.in_err-judge.ensures refl)
 
-pub returns-then-all_free : goal.returns-then-all_free
-returns-then-all_free c =
-    let f = c.all_free.ensures c.if-all_free.true in
-    let e : 0 ≡ judge_of c.args.area.now = search (rules, judge_ways) in
-    stands_linked _ _ e c.linked.ensures.0 c.linked.ensures.1
+pub slice_bounds-link_of-end : goal.slice_bounds-link_of-end
+slice_bounds-link_of-end c = omega (arith, length-take-le 9 c.args.area.now (omega (arith, judged_size _ c.in_ok-judge.ensures)))
 
-pub returns-then-slots_fair : goal.returns-then-slots_fair
-returns-then-slots_fair c =
-    let e : 0 ≡ judge_of c.args.area.now = search (rules, judge_ways) in
-    stands_linked _ _ e c.linked-then-slots_fair.ensures.0 c.linked-then-slots_fair.ensures.1
+pub link_of-requires : goal.link_of-requires
+link_of-requires c = length-take-le _ _ (omega (arith, judged_size _ c.in_ok-judge.ensures))
 
 pub returns : goal.returns
-returns c =
-    -- where the tests have come together: link, edition or slots said no
-    let e : 59 ≡ judge_of c.args.area.now =
-    elim c.if-link_fair.branch [
-      | then-link_fair+then-area-le1+else-all_free+else-slots_fair w ↦ search (rules, judge_ways)
-      | then-link_fair+else-area-le1 w ↦ search (rules, judge_ways)
-      | else-link_fair w ↦ search (rules, judge_ways)
-    ] in
-    stands_refused _ _ 59 (λ z. omega arith) e c.unlinked-2.ensures
+returns c = stands_linked _ _ c.in_ok-judge.ensures refl c.link_of.ensures

@@ -1,11 +1,19 @@
-use Rattle.collector.proofs.Hushed.{hush_quiet, hush_frame, hush_damage}
+use Rattle.std.proofs.Common.{refl, inl, inr}
+use Rattle.std.proofs.lemmas.Result.{err_from_is_err_and}
+use Rattle.collector.proofs.Hushed.{hush_left, hush_quiet, hush_frame, hush_damage}
 use Rattle.collector.proofs.lent.hush.Goals as goal
 
+pub returns-in_err-f : goal.returns-in_err-f
+returns-in_err-f c t p e s =
+    let q = err_from_is_err_and c.from_residual.result c.from_residual.ensures.1 in
+    rw (q.1, q.2) (hush_left e c.args.link t c.args.report.now s c.requires p _ c.in_err-f.ensures refl)
+
 pub returns-in-Damage : goal.returns-in-Damage
-returns-in-Damage c t p e s = hush_damage e c.args.link t c.args.report.now s c.requires p c.silence-f.result c.silence-f.ensures c.in-Damage.is c.put_damage.ensures
+returns-in-Damage c t p e s = hush_damage e c.args.link t c.args.report.now s c.requires p _ c.in_ok-f.ensures refl c.in-Damage.is c.put_damage.ensures
 
 pub returns-in-Quiet : goal.returns-in-Quiet
-returns-in-Quiet c t p e s = hush_quiet e c.args.link t c.args.report.now s c.requires p c.silence-f.result c.silence-f.ensures c.in-Quiet.is c.quiet.ensures
-
-pub returns-in-Frame : goal.returns-in-Frame
-returns-in-Frame c t p e s = hush_frame e c.args.link t c.args.report.now s c.requires p c.silence-f.result c.silence-f.ensures c.in-Frame.is c.quiet-in-Frame.ensures
+returns-in-Quiet c t p e s =
+    elim c.in-Quiet.is [
+      | inl o ↦ hush_quiet e c.args.link t c.args.report.now s c.requires p _ c.in_ok-f.ensures refl o
+      | inr o ↦ hush_frame e c.args.link t c.args.report.now s c.requires p _ c.in_ok-f.ensures refl o
+    ]

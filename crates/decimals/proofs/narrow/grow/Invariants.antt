@@ -1,3 +1,4 @@
+-- The whole has room; each step by ten takes it past the number.
 use Rattle.std.proofs.Common.{◌-◌, ◌+◌, ◌≤◌, ◌<◌}
 use Rattle.decimals.proofs.narrow.grow.Given as goal
 

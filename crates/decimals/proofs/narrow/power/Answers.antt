@@ -1,3 +1,4 @@
+-- One shifted is a power of two.
 use Rattle.decimals.specs.Narrow.{shifted}
 use Rattle.decimals.proofs.narrow.power.Goals as goal
 

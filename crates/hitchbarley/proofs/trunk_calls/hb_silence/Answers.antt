@@ -1,18 +1,19 @@
 use Rattle.std.proofs.Common.{rules}
 use Rattle.octets.specs.Reading.{Octets}
-use Rattle.hitchbarley.proofs.Passed.{stills_line}
-use Rattle.hitchbarley.proofs.Stilled.{still_not, still_laid}
+use Rattle.hitchbarley.proofs.Stilled.{still_refused, still_stayed, still_laid}
 use Rattle.hitchbarley.proofs.trunk_calls.hb_silence.Goals as goal
 
-pub returns-then-report-ne-SIZE : goal.returns-then-report-ne-SIZE
-returns-then-report-ne-SIZE c = search (rules, stills_line)
-
-pub returns-then-n-ne0 : goal.returns-then-n-ne0
-returns-then-n-ne0 c =
+pub returns-in-Err : goal.returns-in-Err
+returns-in-Err c =
     let os : Octets c.args.state.now = search rules in
-    still_not _ _ os c.if-report-ne-SIZE.false c.still-s.ensures c.if-n-ne0.true
+    still_refused _ _ os c.if-report-ne-SIZE.false c.still.ensures c.in-Err.is c.number-in-Err.ensures
 
-pub returns : goal.returns
-returns c =
+pub returns-in-Ok-hush : goal.returns-in-Ok-hush
+returns-in-Ok-hush c =
     let os : Octets c.args.state.now = search rules in
-    still_laid _ _ os c.if-report-ne-SIZE.false c.still-s.ensures c.if-n-ne0.false c.hush-f.ensures c.lay_link.ensures
+    still_laid _ _ os c.if-report-ne-SIZE.false c.still.ensures c.in-Ok.is c.hush.ensures c.in-Ok-hush.is c.lay_link.ensures (search rules)
+
+pub returns-in-Err-hush : goal.returns-in-Err-hush
+returns-in-Err-hush c =
+    let os : Octets c.args.state.now = search rules in
+    still_stayed _ _ os c.if-report-ne-SIZE.false c.still.ensures c.in-Ok.is c.hush.ensures c.in-Err-hush.is c.number-in-Err-hush.ensures

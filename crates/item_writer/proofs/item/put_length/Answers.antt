@@ -1,24 +1,26 @@
-use Rattle.std.proofs.Common.{arith, refl, sym, lt-ltb, le-ltb}
+use Rattle.std.proofs.Common.{◌≡◌, ◌/◌, ◌%◌, arith, refl, sym, lt-ltb, le-ltb}
 use Rattle.octets.specs.Splice.{splice_nil}
 use Rattle.tags.specs.Layout.{length_octets}
 use Rattle.item_writer.proofs.item.put_length.Goals as goal
 
-pub returns-then-len-lt5 : goal.returns-then-len-lt5
-unfolding length_octets
-returns-then-len-lt5 c = rw (lt-ltb _ _ c.if-len-lt5.true) (record { area = sym (splice_nil _ _); after = omega arith })
-
 pub put-requires : goal.put-requires
 unfolding length_octets
-put-requires c = let h = rw (le-ltb _ _ c.if-len-lt5.false, lt-ltb _ _ c.if-len-lt254.true) at c.requires.1 in omega arith
+put-requires c = let h = rw (le-ltb c.args.len 5 (omega arith), lt-ltb c.args.len 254 (omega arith)) at c.requires.1 in omega arith
 
-pub returns-then-len-lt254 : goal.returns-then-len-lt254
+pub copy-requires : goal.copy-requires
 unfolding length_octets
-returns-then-len-lt254 c = rw (le-ltb _ _ c.if-len-lt5.false, lt-ltb _ _ c.if-len-lt254.true) (record { area = c.put.ensures; after = refl })
+copy-requires c = let h = rw (le-ltb c.args.len 5 (omega arith), le-ltb c.args.len 254 (omega arith)) at c.requires.1 in omega arith
 
-pub put_long-requires : goal.put_long-requires
+pub returns-in-0-to-4 : goal.returns-in-0-to-4
 unfolding length_octets
-put_long-requires c = (c.requires.0, let h = rw (le-ltb _ _ c.if-len-lt5.false, le-ltb _ _ c.if-len-lt254.false) at c.requires.1 in omega arith)
+returns-in-0-to-4 c = rw (lt-ltb c.args.len 5 (omega arith)) (record { area = sym (splice_nil _ _); after = omega arith })
 
-pub returns : goal.returns
+pub returns-in-5-to-253 : goal.returns-in-5-to-253
 unfolding length_octets
-returns c = rw (le-ltb _ _ c.if-len-lt5.false, le-ltb _ _ c.if-len-lt254.false) (record { area = c.put_long.ensures; after = refl })
+returns-in-5-to-253 c = rw (le-ltb c.args.len 5 (omega arith), lt-ltb c.args.len 254 (omega arith)) (record { area = c.put.ensures; after = refl })
+
+pub returns-in_default : goal.returns-in_default
+unfolding length_octets
+returns-in_default c =
+    let high : c.args.len / 256 % 256 ≡ c.args.len / 256 = omega arith in
+    rw (le-ltb c.args.len 5 (omega arith), le-ltb c.args.len 254 (omega arith)) (record { area = rw (c.to_be_bytes.ensures, high) at c.copy.ensures; after = refl })

@@ -1,14 +1,14 @@
-use Rattle.std.proofs.Common.{ℕ, List, sym, ap, ◌∙◌}
+use Rattle.std.proofs.Common.{sym, ◌∙◌}
 use Rattle.octets.specs.Choice.{given_true, given_false}
-use Rattle.npdu.specs.Address.{same_octets, same_address, settled}
+use Rattle.npdu.specs.Address.{absent, settled}
 use Rattle.npdu.specs.Reading.{address_of}
-use Rattle.npdu.specs.declared.Address.{Address}
+use Rattle.npdu.proofs.AddressLaws.{same_octets_is}
 use Rattle.npdu.proofs.addresses.is_settled.Goals as goal
 
-pub returns-then-here : goal.returns-then-here
+pub returns-then-a : goal.returns-then-a
 unfolding settled address_of
-returns-then-here c = c.same_octets.ensures ∙ ap (λ (x : List ℕ). same_octets x c.args.a.octets) c.address.ensures ∙ sym (given_true _ _ _ c.if-here.true)
+returns-then-a c = c.eq.ensures ∙ rw (c.address.ensures, c.from.ensures) (same_octets_is _ _ ∙ sym (given_true _ _ _ c.if-a.true))
 
 pub returns : goal.returns
-unfolding settled address_of
-returns c = c.same_address.ensures ∙ ap (λ (x : Address). same_address x c.args.a) c.no_address.ensures ∙ sym (given_false _ _ _ c.if-here.false)
+unfolding settled absent
+returns c = c.same_address.ensures ∙ sym (given_false _ _ _ c.if-a.false)

@@ -17,7 +17,7 @@ returns c =
     let kept : Kept h = record { dest_kept = search rules; source_kept = search rules } in
     let k = parts_length h (fault_none h c.requires.0) kept in
     let a : List ℕ = (1 ∷ control_of h ∷ []) ++ parts_octets h in
-    let e : 0 + length a ≡ 2 + (c.part_size.result + c.part_size-2.result) = omega (arith, k, c.part_size.ensures.value, c.part_size-2.ensures.value) in
+    let e : 0 + length a ≡ 2 + c.parts_size.result = omega (arith, k, c.parts_size.ensures.value) in
     splice_then o 0 a _ (omega (arith, c.requires.1, k, tail_length h))
     (splice_then o 0 (1 ∷ control_of h ∷ []) (parts_octets h) (omega (arith, c.requires.1, k)) (rw (← c.control.ensures) (splice_sets o 0 _ (omega (arith, c.requires.1)))) c.put_parts.ensures)
     (rw e c.put_tail.ensures)

@@ -1,9 +1,9 @@
-use Rattle.std.proofs.Common.{arith, ℕ, Bool, true, ◌≡◌, ◌+◌, ◌≤◌, ◌/◌, ◌%◌, [], ◌∷◌, length, set, take, length-set, length-take-le}
-use Rattle.std.proofs.Math.Numerals.{towards_suc}
+use Rattle.std.proofs.Common.{arith, ℕ, Bool, true, ◌≡◌, ◌+◌, ◌≤◌, ◌/◌, ◌%◌, [], ◌∷◌, length, set, take, ap, ◌∙◌, length-set, length-take-le}
 use Rattle.octets.specs.Choice.{given_true}
-use Rattle.octets.specs.Splice.{splice, splice_then, splice_sets}
+use Rattle.octets.specs.Splice.{splice, splice_set, splice_then}
 use Rattle.npdu.specs.Layout.{part_laid, part_octets}
 use Rattle.npdu.specs.Size.{part_size}
+use Rattle.npdu.proofs.Sizes.{two_octets}
 use Rattle.npdu.proofs.layout.put_part.Goals as goal
 
 -- what a part that is present takes
@@ -11,31 +11,31 @@ room : (here : Bool) (len at n : ℕ) → at + part_size here len ≤ n → here
 unfolding part_size
 room here len at n r h = let e : part_size here len ≡ 3 + len = given_true _ _ _ h in omega (arith, e, r)
 
-pub bounds-out-at : goal.bounds-out-at
-bounds-out-at c = let r = room c.args.here c.args.len _ _ c.requires.1 c.if-here.true in omega arith
-
-pub bounds-out-at-then-here : goal.bounds-out-at-then-here
-bounds-out-at-then-here c = let r = room c.args.here c.args.len _ _ c.requires.1 c.if-here.true in simp length-set (omega arith)
-
-pub bounds-out-at-then-here-2 : goal.bounds-out-at-then-here-2
-bounds-out-at-then-here-2 c = let r = room c.args.here c.args.len _ _ c.requires.1 c.if-here.true in simp length-set (omega arith)
-
 pub copy-requires : goal.copy-requires
-copy-requires c =
-    let a = c.args in
-    let r = room a.here a.len _ _ c.requires.1 c.if-here.true in
-    let k : a.len ≤ 7 = c.requires.0 c.if-here.true in
-    let e : length (take a.len a.adr) ≡ a.len = length-take-le _ _ (omega arith) in
+copy-requires c = let r = room c.args.a.present c.args.a.length _ _ c.requires.1 c.if-a.true in omega (arith, ap length c.to_be_bytes.ensures)
+
+pub bounds-out-at : goal.bounds-out-at
+bounds-out-at c = let r = room c.args.a.present c.args.a.length _ _ c.requires.1 c.if-a.true in omega arith
+
+pub copy-requires-then-a : goal.copy-requires-then-a
+copy-requires-then-a c =
+    let a = c.args.a in
+    let r = room a.present a.length _ _ c.requires.1 c.if-a.true in
+    let k : a.length ≤ 7 = c.requires.0 c.if-a.true in
+    let e : length (take c.from.result a.octets) ≡ c.from.result = length-take-le _ _ (omega arith) in
     rw e (simp length-set (omega arith))
 
-pub returns-then-here : goal.returns-then-here
+pub returns-then-a : goal.returns-then-a
 unfolding part_laid part_octets
-returns-then-here c =
-    let a = c.args in
-    let o = a.out.now in
-    let r = room a.here a.len _ _ c.requires.1 c.if-here.true in
-    let k : a.len ≤ 7 = c.requires.0 c.if-here.true in
-    let e : length (take a.len a.adr) ≡ a.len = length-take-le _ _ (omega arith) in
-    let f : set (set (set o a.at (a.net / 256)) (a.at + 1) (a.net % 256)) (a.at + 2) a.len ≡ splice o a.at (a.net / 256 ∷ a.net % 256 ∷ a.len ∷ []) =
-    simp towards_suc (splice_sets o a.at (a.net / 256 ∷ a.net % 256 ∷ a.len ∷ []) (omega arith)) in
-    rw (given_true _ _ _ c.if-here.true) (splice_then o a.at (a.net / 256 ∷ a.net % 256 ∷ a.len ∷ []) (take a.len a.adr) (rw e (omega arith)) f c.copy.ensures)
+returns-then-a c =
+    let a = c.args.a in
+    let at = c.args.at in
+    let o = c.args.out.now in
+    let r = room a.present a.length _ _ c.requires.1 c.if-a.true in
+    let k : a.length ≤ 7 = c.requires.0 c.if-a.true in
+    let e : length (take a.length a.octets) ≡ a.length = length-take-le _ _ (omega arith) in
+    let n = c.to_be_bytes.ensures ∙ two_octets a.network (omega arith) in
+    let f : set c.copy.new.dst (at + 2) a.length ≡ splice o at (a.network / 256 ∷ a.network % 256 ∷ a.length ∷ []) =
+    splice_then o at (a.network / 256 ∷ a.network % 256 ∷ []) (a.length ∷ []) (omega arith) (rw n at c.copy.ensures) (splice_set c.copy.new.dst (at + 2) a.length (omega arith)) in
+    rw (given_true _ _ _ c.if-a.true)
+    (splice_then o at (a.network / 256 ∷ a.network % 256 ∷ a.length ∷ []) (take a.length a.octets) (rw e (omega arith)) f (rw c.from.ensures at c.copy-then-a.ensures))

@@ -8,23 +8,23 @@ use Rattle.npdu.proofs.layout.put_tail.Goals as goal
 
 pub bounds-out-at : goal.bounds-out-at
 unfolding hop_size tail_size
-bounds-out-at c = let e : hop_size c.args.h.dest ≡ 1 = given_true _ _ _ c.if-dest.true in omega (arith, e, c.requires)
+bounds-out-at c = let e : hop_size c.args.h.dest ≡ 1 = given_true _ _ _ c.if-h.true in omega (arith, e, c.requires)
 
 pub put_message-requires : goal.put_message-requires
 unfolding hop_size tail_size
-put_message-requires c = let e : hop_size c.args.h.dest ≡ 1 = given_true _ _ _ c.if-dest.true in simp length-set (omega (arith, e, c.requires))
+put_message-requires c = let e : hop_size c.args.h.dest ≡ 1 = given_true _ _ _ c.if-h.true in simp length-set (omega (arith, e, c.requires))
 
-pub returns-then-dest : goal.returns-then-dest
+pub returns-then-h : goal.returns-then-h
 unfolding hop_octets hop_size tail_octets tail_size
-returns-then-dest c =
+returns-then-h c =
     let a = c.args in
     let h = a.h in
     let o = a.out.now in
-    let e : hop_size h.dest ≡ 1 = given_true _ _ _ c.if-dest.true in
-    rw (given_true _ _ _ c.if-dest.true)
+    let e : hop_size h.dest ≡ 1 = given_true _ _ _ c.if-h.true in
+    rw (given_true _ _ _ c.if-h.true)
     (splice_then o a.at (h.hops ∷ []) (message_octets h.message h.kind h.vendor) (omega (arith, e, c.requires, message_length h.message h.kind h.vendor))
     (splice_set o a.at h.hops (omega (arith, e, c.requires))) c.put_message.ensures)
 
 pub returns : goal.returns
 unfolding hop_octets tail_octets
-returns c = rw (given_false _ _ _ c.if-dest.false) c.put_message-2.ensures
+returns c = rw (given_false _ _ _ c.if-h.false) c.put_message-2.ensures

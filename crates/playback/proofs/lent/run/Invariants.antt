@@ -1,10 +1,11 @@
-use Rattle.std.specs.Prelude.{length, ◌-◌}
+use Rattle.std.specs.Prelude.{length, ◌-◌, ◌*◌}
+use Rattle.playback.specs.Layout.{record_size}
+use Rattle.playback.specs.Answers.{went_of}
 use Rattle.playback.proofs.Going.{Onward}
 use Rattle.playback.proofs.lent.run.Given as goal
 
-abbrev pub invariant-loop-at : goal.invariant-loop-at
-invariant-loop-at l =
-    Onward l.edition l.initial.link l.initial.slots l.initial.store l.initial.report l.initial.area l.records l.moved l.link l.slots l.store l.report l.area l.eaten l.at
+abbrev pub invariant-loop-w : goal.invariant-loop-w
+invariant-loop-w l = Onward l.edition l.fn.link l.fn.slots l.initial.store l.initial.report l.initial.area l.records (went_of l.w) l.store l.report l.area
 
-abbrev pub decreases-loop-at : goal.decreases-loop-at
-decreases-loop-at l = length l.records - l.at
+abbrev pub decreases-loop-w : goal.decreases-loop-w
+decreases-loop-w l = length l.records - record_size * l.w.eaten

@@ -1,4 +1,6 @@
+-- Less than a record is held over.
+use Rattle.std.proofs.Common.{◌<◌}
 use Rattle.replay.proofs.tape.all.Given as goal
 
-abbrev pub decreases-loop-turns : goal.decreases-loop-turns
-decreases-loop-turns g l = l.turns
+abbrev pub invariant-loop : goal.invariant-loop
+invariant-loop g l = l.held < 4

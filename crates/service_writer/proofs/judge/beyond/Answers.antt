@@ -15,7 +15,7 @@ pub overflow_sub-end : goal.overflow_sub-end
 overflow_sub-end c = omega (arith, Beyond.cut_facts _ c.args.behind.now c.args.request c.args.q c.requires.0 c.requires.1 _ c.cut_item-c.ensures)
 
 pub finish-requires : goal.finish-requires
-finish-requires c = Beyond.cut_small _ c.args.behind.now c.args.request c.args.q c.requires.0 c.requires.1 _ c.cut_item-c.ensures c.if-s-behind.false _ c.item-x.ensures _ c.moved.ensures c.requires.2
+finish-requires c = Beyond.cut_small _ c.args.behind.now c.args.request c.args.q c.requires.0 c.requires.1 _ c.cut_item-c.ensures c.if-s-behind.false _ (c.item-x.ensures 0) c.requires.2
 
 pub returns : goal.returns
-returns c = Beyond.beyond_some _ c.args.behind.now c.args.request c.args.q c.requires.0 c.requires.1 _ c.cut_item-c.ensures c.if-s-behind.false _ c.item-x.ensures _ c.moved.ensures _ c.finish.ensures
+returns c = Beyond.beyond_some _ c.args.behind.now c.args.request c.args.q c.requires.0 c.requires.1 _ c.cut_item-c.ensures c.if-s-behind.false _ (c.item-x.ensures 0) _ c.finish.ensures

@@ -1,11 +1,9 @@
 use Rattle.service_writer.proofs.Going
 use Rattle.service_writer.proofs.judge.closed.Goals as goal
+use Rattle.service_writer.proofs.judge.closed.Goals.{then-q-eq0-via-then-q-eq0, then-q-eq0-via-else-q-eq0+then-n-q}
 
-pub returns-then-d-eq0 : goal.returns-then-d-eq0
-returns-then-d-eq0 c = Going.as_number _ _ _ c.requires _ _ 35 (Going.stepped_none _ _ _ c.requires _ _ c.if-d-eq0.true) c.refused.ensures
-
-pub returns-then-n-q : goal.returns-then-n-q
-returns-then-n-q c = Going.as_number _ _ _ c.requires _ _ 35 (Going.stepped_other _ _ _ c.requires _ _ c.if-d-eq0.false c.if-n-q.true) c.refused-then-n-q.ensures
+pub returns-then-q-eq0 : goal.returns-then-q-eq0
+returns-then-q-eq0 c = elim c.then-q-eq0.branch [ then-q-eq0-via-then-q-eq0 w ↦ Going.stepped_none _ _ _ c.requires _ _ w.if-q-eq0.true | then-q-eq0-via-else-q-eq0+then-n-q w ↦ Going.stepped_other _ _ _ c.requires _ _ w.if-q-eq0.false w.if-n-q.true ]
 
 pub returns : goal.returns
-returns c = Going.stepped_close _ _ _ c.requires _ _ c.if-d-eq0.false _ c.if-n-q.false c.passed-phase.ensures
+returns c = Going.stepped_close _ _ _ c.requires _ _ c.if-q-eq0.false _ c.if-n-q.false c.passed.ensures

@@ -6,7 +6,7 @@ use Rattle.service_writer.proofs.judge.cut_length.Goals as goal
 
 pub returns-then-e-lt254 : goal.returns-then-e-lt254
 unfolding cut_length
-returns-then-e-lt254 c = search (rules, tests, c.wide.ensures)
+returns-then-e-lt254 c = search (rules, tests, c.from.ensures)
 
 pub returns : goal.returns
 unfolding cut_length

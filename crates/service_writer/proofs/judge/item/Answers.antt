@@ -1,8 +1,5 @@
-use Rattle.std.proofs.Common.{rules}
-use Rattle.octets.specs.Rules.{tests}
-use Rattle.service_writer.specs.Judging.{past_item}
+use Rattle.service_writer.proofs.Going
 use Rattle.service_writer.proofs.judge.item.Goals as goal
 
 pub returns : goal.returns
-unfolding past_item
-returns c = search (rules, tests, c.passed-phase.ensures)
+returns c = Going.stepped_item _ _ _ c.requires.0 _ _ _ _ c.requires.2 _ c.passed.ensures

@@ -1,14 +1,13 @@
 use Rattle.std.proofs.Common.{rules}
-use Rattle.std.proofs.Common.{arith}
+use Rattle.std.proofs.lemmas.Result.{err_from_is_err_and}
 use Rattle.services.proofs.Ways.{options}
-use Rattle.services.proofs.Places.{topped}
 use Rattle.services.proofs.parts.optional_number.Goals as goal
 
-pub returns-in-Is : goal.returns-in-Is
-returns-in-Is c = (λ next r h rs w. search (rules, options), search (rules, topped))
+pub returns-then-not-present : goal.returns-then-not-present
+returns-then-not-present c = (λ next r h rs w. search (rules, options), tt)
 
-pub returns-in-Refused : goal.returns-in-Refused
-returns-in-Refused c = (λ next rs w. search (rules, options), tt)
+pub returns-in_err-v : goal.returns-in_err-v
+returns-in_err-v c = let p = err_from_is_err_and c.from_residual.result c.from_residual.ensures.1 in rw (p.1, p.2) (λ next rs w. search (rules, options, c.in_err-v.ensures), tt)
 
-pub returns-else-present : goal.returns-else-present
-returns-else-present c = (λ next r h rs w. search (rules, options), omega arith)
+pub returns : goal.returns
+returns c = (λ next r h rs w. search (rules, options, c.in_ok-v.ensures), c.in_ok-v.ensures.1)

@@ -1,21 +1,20 @@
-use Rattle.std.proofs.Common.{rules}
-use Rattle.services.proofs.Ways.{finds}
+use Rattle.services.proofs.Ways
 use Rattle.services.proofs.parts.wanted.Goals as goal
+use Rattle.services.proofs.parts.wanted.Goals.{then-kind-via-then-kind, then-kind-via-else-kind+then-n-number}
 
-pub returns-then-k-kind : goal.returns-then-k-kind
-returns-then-k-kind c = search (rules, finds)
+pub returns-in_default : goal.returns-in_default
+returns-in_default c = rw (← c.head.ensures) (Ways.found_refused _ _ _ c.in_default.not-Ok)
 
-pub returns-then-n-number : goal.returns-then-n-number
-returns-then-n-number c = search (rules, finds)
+pub returns-in_default-t : goal.returns-in_default-t
+returns-in_default-t c = rw (← c.in-Ok.ensures) (Ways.found_none _ _ _ c.in_default-t.not-Item)
 
-pub returns-else-n-number : goal.returns-else-n-number
-returns-else-n-number c = search (rules, finds)
+pub returns-then-kind : goal.returns-then-kind
+returns-then-kind c =
+    rw (← c.kind-2.ensures)
+    (elim c.then-kind.branch [
+      | then-kind-via-then-kind w ↦ Ways.found_kind _ _ _ _ _ c.in-Ok.ensures _ _ _ _ _ c.in-Item.is _ c.kind.ensures w.if-kind.true
+      | then-kind-via-else-kind+then-n-number w ↦ Ways.found_number _ _ _ _ _ c.in-Ok.ensures _ _ _ _ _ c.in-Item.is _ c.kind.ensures w.if-kind.false w.if-n-number.true
+    ])
 
-pub returns-in-Opening : goal.returns-in-Opening
-returns-in-Opening c = search (rules, finds)
-
-pub returns-in-Closing : goal.returns-in-Closing
-returns-in-Closing c = search (rules, finds)
-
-pub returns-in-Refused : goal.returns-in-Refused
-returns-in-Refused c = search (rules, finds)
+pub returns : goal.returns
+returns c = rw (← c.kind-2.ensures) (Ways.found_item _ _ _ _ _ c.in-Ok.ensures _ _ _ _ _ c.in-Item.is _ c.kind.ensures c.if-kind.false c.if-n-number.false)

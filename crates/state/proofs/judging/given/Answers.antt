@@ -1,6 +1,6 @@
-use Rattle.std.proofs.Common.{arith}
+use Rattle.std.proofs.Common.{arith, sym, ◌∙◌}
 use borrow.Author.Tests.{eqb-true}
-use Rattle.state.proofs.Given.{past_one, given_none, given_there}
+use Rattle.state.proofs.Given.{past_one, past_rest, given_none, given_there}
 use Rattle.state.proofs.judging.given.Goals as goal
 
 pub returns-then-o-at-eq0 : goal.returns-then-o-at-eq0
@@ -21,4 +21,4 @@ pub returns : goal.returns
 returns c e =
     given_there c.args.o.now c.args.at c.args.low c.args.top c.requires (omega arith)
     (record { some_net = omega arith; net_range = omega arith; len_least = omega arith; len_range = omega arith })
-    (λ k a b. c.loop-i.invariant.1 k a (omega arith))
+    (past_rest c.args.o.now c.args.at _ _ c.requires c.from.ensures (sym c.all_zero.ensures ∙ e))

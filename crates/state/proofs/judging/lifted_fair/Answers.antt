@@ -5,5 +5,5 @@ use Rattle.state.proofs.judging.lifted_fair.Goals as goal
 pub returns-then-slots_good : goal.returns-then-slots_good
 returns-then-slots_good c = search (rules, lifted_fair)
 
-pub returns : goal.returns
-returns c = search (rules, lifted_none)
+pub returns-else-slots_good : goal.returns-else-slots_good
+returns-else-slots_good c = search (rules, lifted_none)

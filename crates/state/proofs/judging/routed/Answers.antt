@@ -6,7 +6,7 @@ use Rattle.state.proofs.judging.routed.Goals as goal
 
 pub returns-then-o-at-eq0 : goal.returns-then-o-at-eq0
 returns-then-o-at-eq0 c e =
-    let os : Octets c.args.o.now = λ i. omega (arith, c.type_inv.o i) in
+    let os : Octets c.args.o.now = c.fits-o in
     let o = c.args.o.now in
     let at = c.slot_place-at.result in
     let b = or_three (oct o at) (oct o (at + 9)) (oct o (at + 20)) 1 c.if-o-at-gt1.false in
@@ -14,7 +14,7 @@ returns-then-o-at-eq0 c e =
 
 pub returns-then-given : goal.returns-then-given
 returns-then-given c e =
-    let os : Octets c.args.o.now = λ i. omega (arith, c.type_inv.o i) in
+    let os : Octets c.args.o.now = c.fits-o in
     let o = c.args.o.now in
     let at = c.slot_place-at.result in
     let b = or_three (oct o at) (oct o (at + 9)) (oct o (at + 20)) 1 c.if-o-at-gt1.false in

@@ -7,10 +7,6 @@ pub returns-then-edition_good : goal.returns-then-edition_good
 unfolding state_good
 returns-then-edition_good c = search (rules, one_by_one)
 
-pub returns-then-link_good : goal.returns-then-link_good
+pub returns-else-edition_good : goal.returns-else-edition_good
 unfolding state_good
-returns-then-link_good c = search (rules, one_by_one)
-
-pub returns : goal.returns
-unfolding state_good
-returns c = search (rules, one_by_one)
+returns-else-edition_good c = search (rules, one_by_one)

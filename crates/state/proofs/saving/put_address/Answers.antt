@@ -5,4 +5,4 @@ use Rattle.state.proofs.saving.put_address.Goals as goal
 pub returns : goal.returns
 returns c =
     let seven : length c.args.a.octets ≡ 7 = search rules in
-    address_laid _ _ c.args.a c.args.at c.requires seven c.number_octets-n.ensures c.copy.ensures c.copy-2.ensures
+    address_laid _ _ c.args.a c.args.at c.requires seven c.number_octets.ensures c.copy.ensures c.copy-2.ensures

@@ -8,4 +8,4 @@ pub returns : goal.returns
 returns c =
     let shaped : Shaped c.args.c =
     record { head = search rules; store = search rules; four = search (length_of_map, c.well_formed); slots = search (slots_held, c.well_formed) } in
-    state_laid c.args.c shaped _ c.requires c.edition_octet-e.ensures c.put_link.ensures c.copy.ensures c.put.ensures c.put_slots.ensures
+    state_laid c.args.c shaped _ c.requires c.edition_octet.ensures c.put_link.ensures c.copy.ensures c.put.ensures c.put_slots.ensures

@@ -1,6 +1,0 @@
-use Rattle.std.proofs.Common.{arith, [], ◌∷◌}
-use Rattle.octets.specs.Splice.{splice_then}
-use Rattle.apdu_writer.proofs.layouts.put_segment_ack.Goals as goal
-
-pub returns : goal.returns
-returns c = splice_then _ 0 (_ ∷ _ ∷ []) (_ ∷ _ ∷ []) (omega arith) (cc) c.put_two-2.ensures
