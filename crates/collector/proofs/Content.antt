@@ -33,7 +33,7 @@ use Rattle.items.proofs.Cases.{items_say, small_says, refused_says}
 use Rattle.items.proofs.Refusals.{OutHas, items_have}
 use Rattle.messages.specs.Slots.{part}
 use Rattle.rebuild.specs.View as View
-use Rattle.rebuild.specs.Calls.{said_of}
+use Rattle.rebuild.specs.Calls.{said_by}
 use Rattle.rebuild.specs.declared.Step.{Step}
 use Rattle.rebuild.specs.declared.Step.TheVariants.{Held, Complete}
 use Rattle.reports.specs.Layout.{report_octets}
@@ -160,17 +160,17 @@ module _ (w : Heard) (m : Parts) (a : List ℕ) where
   segment_is v = rw (part_rest a m.params)
 
 -- the report of a segment, by the answer of the call
-module _ (w : Heard) (m : Parts) (area : List ℕ) (step : Result Step Refusal) {report : List ℕ} where
-  pub answer_refused : {n : Refusal} → step ≡ Err n → report ≡ report_octets (refusal w.frame (number_of n)) → report ≡ report_octets (step_report w m (said_of step) area)
+module _ (w : Heard) (m : Parts) (area : List ℕ) (step : Result Step ℕ) {report : List ℕ} where
+  pub answer_refused : {n : ℕ} → step ≡ Err n → report ≡ report_octets (refusal w.frame n) → report ≡ report_octets (step_report w m (said_by step) area)
   answer_refused e q = rw e q
 
-  pub answer_taken : {i n : ℕ} {r : Report} → step ≡ Ok (Held i n) → r ≡ segment_taken w.frame m.apdu i n → report ≡ report_octets r → report ≡ report_octets (step_report w m (said_of step) area)
+  pub answer_taken : {i n : ℕ} {r : Report} → step ≡ Ok (Held i n) → r ≡ segment_taken w.frame m.apdu i n → report ≡ report_octets r → report ≡ report_octets (step_report w m (said_by step) area)
   answer_taken e d q = rw e (q ∙ ap report_octets d)
 
   -- the octets of the slot, as the code lends them
   pub answer_complete : {i n at : ℕ} {r : Report} → step ≡ Ok (Complete i n) → at ≡ i → r ≡ complete w.frame m.apdu i n
-      → report ≡ report_octets (by_tags (items_of (take (16384 * at + n - 16384 * at) (drop (16384 * at) area))) r) → report ≡ report_octets (step_report w m (said_of step) area)
+      → report ≡ report_octets (by_tags (items_of (take (16384 * at + n - 16384 * at) (drop (16384 * at) area))) r) → report ≡ report_octets (step_report w m (said_by step) area)
   answer_complete {i} {n} e k d q = rw e (q ∙ rw (k, d, part_from area (16384 * i) n))
 
-pub answer_within : (area : List ℕ) (step : Result Step Refusal) {i n at : ℕ} → step ≡ Ok (Complete i n) → at ≡ i → Named (said_of step) area → 16384 * at + n ≤ length area
+pub answer_within : (area : List ℕ) (step : Result Step ℕ) {i n at : ℕ} → step ≡ Ok (Complete i n) → at ≡ i → Named (said_by step) area → 16384 * at + n ≤ length area
 answer_within area step {n = n} e k h = rw k (rw e at h)

@@ -7,7 +7,7 @@ ghost use Rattle.apdu.specs.Reading.{read_apdu};
 ghost use Rattle.items.specs.Reading.{items_of};
 ghost use Rattle.items.specs.Listing.{refusal_in};
 ghost use Rattle.rebuild.specs.View.{view};
-ghost use Rattle.rebuild.specs.Calls.{said_of, taken_of};
+ghost use Rattle.rebuild.specs.Calls.{said_by, said_of, taken_of};
 ghost use Rattle.reports.specs.Layout.{report_size, report_octets};
 ghost use Rattle.reports.specs.Kinds.{damaged, refusal};
 ghost use Rattle.collector.specs.Heard.{heard_of, route_of};
@@ -65,12 +65,12 @@ fn put_by_tags(out: &mut [u8], params: &[u8], r: Report)
 
 // The report of a segment, from its answer and the area after it.
 #[tactic(auto, using(crate::proofs::Content::answer_complete, crate::proofs::Content::answer_refused, crate::proofs::Content::answer_taken, crate::proofs::Content::answer_within))]
-pub fn put_answer(w: Heard, m: Parts, step: Result<Step, Refusal>, out: &mut [u8], area: &[u8])
-    requires { (length out.old ≡ report_size) × Named (said_of step) area.now }
-    ensures { out.new ≡ report_octets (step_report w m (said_of step) area.now) }
+pub fn put_answer(w: Heard, m: Parts, step: Result<Step, u8>, out: &mut [u8], area: &[u8])
+    requires { (length out.old ≡ report_size) × Named (said_by step) area.now }
+    ensures { out.new ≡ report_octets (step_report w m (said_by step) area.now) }
 {
     match step {
-        Err(n) => put_refusal(out, w, n),
+        Err(n) => reports::put(Report::refusal(w.frame, n), out),
         Ok(Step::Held(slot, held)) => {
             reports::put(
                 Report::segment_taken(w.frame, m.apdu, slot, u32::from(held)),
@@ -86,6 +86,17 @@ pub fn put_answer(w: Heard, m: Parts, step: Result<Step, Refusal>, out: &mut [u8
                 Report::complete(w.frame, m.apdu, slot, u32::from(total)),
             );
         }
+    }
+}
+
+// The same from what rebuilding answered.
+pub fn put_taken(w: Heard, m: Parts, step: Result<Step, Refusal>, out: &mut [u8], area: &[u8])
+    requires { (length out.old ≡ report_size) × Named (said_of step) area.now }
+    ensures { out.new ≡ report_octets (step_report w m (said_of step) area.now) }
+{
+    match step {
+        Ok(s) => put_answer(w, m, Ok(s), out, area),
+        Err(n) => put_answer(w, m, Err(n.number()), out, area),
     }
 }
 
@@ -126,7 +137,7 @@ fn act_segment(
     ensures { Acted (acting w (Content.message v m a.now) (view slots) area.old) result out.new area.new }
 {
     let t = take(w, v, m, a, slots, area);
-    put_answer(w, m, t.answer, out, area);
+    put_taken(w, m, t.answer, out, area);
     t.slots
 }
 

@@ -31,7 +31,7 @@ fn segment(state: &mut [u8], t: Told, report: &mut [u8], area: &mut [u8])
     let slots = state::slots_at(state);
     let r = frame::take(w, t.route, t.parts, &state[from..end], slots, area);
     let _ = state::lay_slots(r.slots, state);
-    frame::put_answer(w, t.parts, r.answer, report, area);
+    frame::put_taken(w, t.parts, r.answer, report, area);
 }
 
 // A good frame, whose head and data stand in the state area.

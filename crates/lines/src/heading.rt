@@ -35,7 +35,7 @@ fn destination(pen: &mut Pen, h: &Npdu) {
 pub fn stations(pen: &mut Pen, from: u8, to: u8) {
     pen.number(from);
     pen.put(b" to ");
-    pen.station(to);
+    pen.station(u64::from(to));
 }
 
 // Source and destination, a network address behind each where the header gives one.
@@ -44,7 +44,7 @@ pub fn routed(pen: &mut Pen, r: Heard, h: &Npdu) {
     pen.number(r.from);
     source(pen, h);
     pen.put(b" to ");
-    pen.station(r.to);
+    pen.station(u64::from(r.to));
     destination(pen, h);
 }
 
@@ -53,7 +53,7 @@ pub fn cells(pen: &mut Pen, r: Heard, h: &Npdu) {
     pen.number(r.from);
     source(pen, h);
     pen.one(b',');
-    pen.station(r.to);
+    pen.station(u64::from(r.to));
     destination(pen, h);
 }
 
@@ -62,12 +62,12 @@ pub fn pdu(pen: &mut Pen, r: Heard) {
     let kind = u32::from(r.apdu());
     let choice = u32::from(r.choice);
     match kind {
-        1 => pen.name(UNCONFIRMED.name(choice)),
+        1 => pen.name(UNCONFIRMED.name(u64::from(choice))),
         7 if r.first % 2 == 1 => pen.name(KINDS.name(8)),
-        4 | 6 | 7 => pen.name(KINDS.name(kind)),
+        4 | 6 | 7 => pen.name(KINDS.name(u64::from(kind))),
         _ => {
-            pen.name(CONFIRMED.name(choice));
-            pen.name(KINDS.name(kind));
+            pen.name(CONFIRMED.name(u64::from(choice)));
+            pen.name(KINDS.name(u64::from(kind)));
         }
     }
 }

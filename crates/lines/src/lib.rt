@@ -12,7 +12,7 @@ use words::names::{DAMAGES, FRAMES, NETWORK, REFUSALS};
 
 // A frame without a message.
 fn frame(pen: &mut Pen, r: Heard) {
-    pen.name(FRAMES.name(u32::from(r.frame)));
+    pen.name(FRAMES.name(u64::from(r.frame)));
     pen.put(b", from ");
     heading::stations(pen, r.from, r.to);
     if r.length != 0 {
@@ -21,12 +21,12 @@ fn frame(pen: &mut Pen, r: Heard) {
 }
 
 fn damage(pen: &mut Pen, r: Heard) {
-    let name = DAMAGES.name(u32::from(r.number));
+    let name = DAMAGES.name(u64::from(r.number));
     write!(pen, "damage, {}: {name}", r.number);
 }
 
 fn refused(pen: &mut Pen, r: Heard) {
-    let name = REFUSALS.name(u32::from(r.number));
+    let name = REFUSALS.name(u64::from(r.number));
     write!(pen, "refused, {}: {name}, from ", r.number);
     heading::stations(pen, r.from, r.to);
 }
@@ -34,7 +34,7 @@ fn refused(pen: &mut Pen, r: Heard) {
 // A network layer message: its type by name.
 fn network(pen: &mut Pen, r: Heard) {
     let h = r.header().npdu;
-    let name = NETWORK.name(u32::from(h.kind));
+    let name = NETWORK.name(u64::from(h.kind));
     write!(pen, "network layer message {name}");
     heading::routed(pen, r, &h);
     write!(pen, ", {} octets", r.length);

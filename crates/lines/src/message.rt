@@ -22,8 +22,8 @@ fn segment_ack(pen: &mut Pen, p: SegmentAckPdu) {
 fn bare(pen: &mut Pen, p: Pdu) {
     match p {
         Pdu::SegmentAck(q) => segment_ack(pen, q),
-        Pdu::Reject(q) => write!(pen, ": {}", REJECTS.name(u32::from(q.reason))),
-        Pdu::Abort(q) => write!(pen, ": {}", ABORTS.name(u32::from(q.reason))),
+        Pdu::Reject(q) => write!(pen, ": {}", REJECTS.name(u64::from(q.reason))),
+        Pdu::Abort(q) => write!(pen, ": {}", ABORTS.name(u64::from(q.reason))),
         Pdu::Request(_)
         | Pdu::Unconfirmed(_)
         | Pdu::SimpleAck(_)

@@ -1,7 +1,7 @@
 -- What the calls promise: the answer, every slot's record and the whole area.
 use Rattle.std.specs.Prelude.{◌≡◌, ℕ, ◌+◌, ◌<◌, ◌≤◌, List, length, set, ◌==◌, Result, Ok, Err}
 use Rattle.octets.specs.Choice.{pick}
-use Rattle.octets.specs.Refusal.{number_of}
+use Rattle.octets.specs.Refusal.{number_of, numbered}
 use Rattle.octets.specs.declared.refusal.Refusal.{Refusal}
 use Rattle.messages.specs.Slots as Messages
 use Rattle.messages.specs.Rows as Rules
@@ -29,10 +29,13 @@ pub record Forgot : Type 0 where
   pub slots : Slots
 
 -- the calls' answers, in document 01's numbers: t is the slots that an order was given, which a refused one leaves
+abbrev pub said_by : Result Declared.Step ℕ → Step
+said_by (Ok (Answers.Held i n)) = Held i n
+said_by (Ok (Answers.Complete i n)) = Complete i n
+said_by (Err n) = Refused n
+
 abbrev pub said_of : Result Declared.Step Refusal → Step
-said_of (Ok (Answers.Held i n)) = Held i n
-said_of (Ok (Answers.Complete i n)) = Complete i n
-said_of (Err r) = Refused (number_of r)
+said_of r = said_by (numbered r)
 
 abbrev pub taken_of : Call.Taken → Taken
 taken_of r = record { answer = said_of r.answer; slots = r.slots }

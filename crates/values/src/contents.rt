@@ -118,14 +118,19 @@ fn time(pen: &mut Pen, c: &[u8]) {
 // An object's type by name, and its instance.
 fn object(pen: &mut Pen, c: &[u8]) {
     let v = whole(c);
-    write!(pen, "{} {}", OBJECTS.name(v >> 22), v & 0x3F_FFFF);
+    write!(
+        pen,
+        "{} {}",
+        OBJECTS.name(u64::from(v >> 22)),
+        v & 0x3F_FFFF
+    );
 }
 
 // The contents of an application item; `table`: as a cell of a table. A boolean is in its tag.
 pub fn text(pen: &mut Pen, number: u8, value: u8, c: &[u8], table: bool) {
     match number {
         0 => pen.put(b"null"),
-        1 => write!(pen, "{}", BOOLEANS.name(u32::from(value))),
+        1 => write!(pen, "{}", BOOLEANS.name(u64::from(value))),
         3 => write!(pen, "{}", signed(c)),
         4 => real(pen, c),
         5 => double(pen, c),

@@ -13,7 +13,7 @@ fn said(pen: &mut Pen, item: Item) {
         Kind::Application => {
             contents::text(pen, item.number, item.value, item.contents, false);
             pen.put(b" (");
-            pen.name(TYPES.name(u32::from(item.number)));
+            pen.name(TYPES.name(u64::from(item.number)));
             pen.one(b')');
         }
         Kind::Context => {

@@ -9,11 +9,11 @@ use words::names::{CLASSES, CODES, OBJECTS, PROPERTIES, REFUSALS, SEGMENTATIONS}
 
 // An object, its property and, where there is one, the index in brackets.
 fn target(pen: &mut Pen, t: Target) {
-    pen.name(OBJECTS.name(u32::from(t.object)));
+    pen.name(OBJECTS.name(u64::from(t.object)));
     pen.one(b' ');
     pen.number(t.instance);
     pen.one(b' ');
-    pen.name(PROPERTIES.name(t.property));
+    pen.name(PROPERTIES.name(u64::from(t.property)));
     if t.indexed {
         write!(pen, "[{}]", t.index);
     }
@@ -48,7 +48,7 @@ fn who_is(pen: &mut Pen, w: WhoIs) {
 }
 
 fn i_am(pen: &mut Pen, m: IAm) {
-    let segmentation = SEGMENTATIONS.name(u32::from(m.segmentation));
+    let segmentation = SEGMENTATIONS.name(u64::from(m.segmentation));
     write!(
         pen,
         "device {}, vendor {}, APDUs to {} octets, {segmentation}",
@@ -60,8 +60,8 @@ fn fault(pen: &mut Pen, f: Fault) {
     write!(
         pen,
         "class {}, code {}",
-        CLASSES.name(f.class),
-        CODES.name(f.code)
+        CLASSES.name(u64::from(f.class)),
+        CODES.name(u64::from(f.code))
     );
 }
 
@@ -74,7 +74,7 @@ fn other(pen: &mut Pen, s: &[u8]) {
 fn refused(pen: &mut Pen, x: Refusal, s: &[u8]) {
     other(pen, s);
     let number = x.number();
-    write!(pen, ", {number}: {}", REFUSALS.name(u32::from(number)));
+    write!(pen, ", {number}: {}", REFUSALS.name(u64::from(number)));
 }
 
 fn said(pen: &mut Pen, v: Service, s: &[u8], records: &mut [u8]) {

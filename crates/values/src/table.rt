@@ -10,12 +10,12 @@ const ROOM: usize = 57344;
 
 // Object type, instance, property and index, an absent one empty.
 fn target(pen: &mut Pen, t: Target) {
-    let object = OBJECTS.bare(u32::from(t.object));
+    let object = OBJECTS.bare(u64::from(t.object));
     write!(
         pen,
         "{object},{},{},",
         t.instance,
-        PROPERTIES.bare(t.property)
+        PROPERTIES.bare(u64::from(t.property))
     );
     if t.indexed {
         write!(pen, "{}", t.index);
@@ -28,7 +28,7 @@ fn cells(pen: &mut Pen, item: Item) {
     let number = item.number;
     match item.kind {
         Kind::Application => {
-            write!(pen, "{},", TYPES.bare(u32::from(number)));
+            write!(pen, "{},", TYPES.bare(u64::from(number)));
             contents::text(pen, number, item.value, item.contents, true);
         }
         Kind::Context => {

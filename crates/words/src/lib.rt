@@ -104,7 +104,7 @@ impl<'a> Pen<'a> {
     }
 
     // A station's number; 255 is all of them.
-    pub fn station(&mut self, n: u8)
+    pub fn station(&mut self, n: u64)
         ensures { self.old.at ≤ self.new.at }
     {
         match n {

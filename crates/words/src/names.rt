@@ -15,12 +15,12 @@ pub struct Group {
 pub struct Name {
     pub(crate) name: &'static str,
     pub(crate) own: &'static str,
-    pub(crate) number: u32,
+    pub(crate) number: u64,
 }
 
 impl Group {
     // A number by its name, else behind the group's own word.
-    pub fn name(&self, n: u32) -> Name
+    pub fn name(&self, n: u64) -> Name
         ensures { result.number ≡ n }
     {
         Name {
@@ -31,7 +31,7 @@ impl Group {
     }
 
     // A number by its name, else alone.
-    pub fn bare(&self, n: u32) -> Name
+    pub fn bare(&self, n: u64) -> Name
         ensures number { result.number ≡ n }
         ensures alone { length result.own.now ≡ 0 }
     {
