@@ -47,7 +47,7 @@ def found(folder):
         for m in FN.finditer(plain):
             top, body = head(m.group(2))
             name = m.group(3)
-            if re.search(r"-> u8\b", top) and re.search(rf"^ *(?:return )?{NUMBER};?$|=> {NUMBER},", body, re.M):
+            if re.search(r"-> u8\b", top) and re.search(rf"^ *(?:return )?{NUMBER};?$|=> {NUMBER},|\.number\(\)|octets::fault\(", body, re.M):
                 yield "1d functions that answer a refusal's number", f"{tell(m.start())} {name}"
             for p in re.finditer(r"\b(kind|sort): u8", top):
                 yield "1e kinds as numbers", f"{tell(m.start())} {name}({p.group(1)})"
