@@ -80,5 +80,5 @@ module _ (each from to : ℕ) (params : List ℕ) (h : from ≤ length params) (
       rw (add-mul k 1 each, one-mul, ← drop-drop each (k * each) params, ← d, drop-drop each from params) in
       by_test (ltb (length params - from) each)
       (λ q. let t : to ≡ length params = omega (arith, h, e, ltb-true (length params - from) each q) in
-          rw (t, next) (drop-length params ∙ sym (drop_of_length-le params {i = from + each} (omega (arith, ltb-true (length params - from) each q)))))
+      rw (t, next) (drop-length params ∙ sym (drop_of_length-le params {i = from + each} (omega (arith, ltb-true (length params - from) each q)))))
       (λ q. let t : to ≡ from + each = omega (arith, e, ltb-false (length params - from) each q) in rw (t, next))
