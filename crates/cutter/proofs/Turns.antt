@@ -44,10 +44,10 @@ module _ (m : Message) (w : Way) (count : ℕ) (params out₀ : List ℕ) where
 
 module _ {m : Message} {w : Way} {count : ℕ} {params out₀ out : List ℕ} {at from k : ℕ} (l : Laying m w count params out₀ out at from k) where
   -- the k-th NPDU from its pieces
-  pub laying_npdu : (h : Npdu) (p : Pdu) (part : List ℕ) → h ≡ network_head w → p ≡ pdu_of m w.window (ltb (k + 1) count) k → part ≡ part_of w.each k params
+  pub laying_npdu : (h : Npdu) (p : Pdu) (number : ℕ) (part : List ℕ) → h ≡ network_head w → p ≡ pdu_of m w.window (ltb (k + 1) count) number → number ≡ k → part ≡ part_of w.each k params
       → encode h ++ (header p ++ part) ≡ npdu_at m w count params k
   unfolding npdu_at
-  laying_npdu h p part eh ep et = rw (eh, ep, et)
+  laying_npdu h p number part eh ep en et = rw (eh, ep, en, et)
 
   -- its part of the parameters
   pub laying_part : {to : ℕ} → to ≡ from + min (length params - from) w.each → take (to - from) (drop from params) ≡ part_of w.each k params

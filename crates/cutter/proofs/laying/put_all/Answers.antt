@@ -13,14 +13,15 @@ pub put_npdu-at-requires : goal.put_npdu-at-requires
 put_npdu-at-requires c =
     let l = c.loop-k.invariant in
     let f = fine _ _ _ _ c.requires.fine in
-    let n = laying_npdu l _ _ _ c.network_head-head.ensures c.pdu_of-p.ensures (laying_part l (ap (λ x. c.loop-k.from + x) c.min.ensures)) in
+    let n = laying_npdu l _ _ _ _ c.network_head-head.ensures c.pdu_of-p.ensures (omega (arith, f.bounded, c.requires.all, c.loop-k-test.true)) (laying_part l (ap (λ x. c.loop-k.from + x) c.min.ensures)) in
     (rw c.network_head-head.ensures f.range.network, rw c.pdu_of-p.ensures (f.header _ _), rw n (laying_room l c.requires c.loop-k-test.true))
 
 pub loop-k-preserved : goal.loop-k-preserved
 loop-k-preserved c =
     let l = c.loop-k.invariant in
+    let f = fine _ _ _ _ c.requires.fine in
     let t = ap (λ x. c.loop-k.from + x) c.min.ensures in
-    let n = laying_npdu l _ _ _ c.network_head-head.ensures c.pdu_of-p.ensures (laying_part l t) in
+    let n = laying_npdu l _ _ _ _ c.network_head-head.ensures c.pdu_of-p.ensures (omega (arith, f.bounded, c.requires.all, c.loop-k-test.true)) (laying_part l t) in
     laying_next l c.requires c.loop-k-test.true t (rw n at c.put_npdu-at.ensures)
 
 pub returns : goal.returns
