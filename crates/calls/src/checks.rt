@@ -1,5 +1,5 @@
 // The check sums, whole and in parts; and the receiver by value.
-use crate::areas::Input;
+use crate::areas::{Area, INPUT};
 use crate::text::Line;
 use crate::{print, receiver};
 use hitchbarley::sum_calls;
@@ -40,7 +40,8 @@ impl Call {
     }
 
     pub fn line(self, rt: &impl Print, line: Line) {
-        let octets = Input::of(line.group(1));
+        let mut octets = [0; INPUT];
+        let octets = Area::of(&mut octets, line.group(1));
         self.make(rt, line.number(1), octets.shown());
     }
 }
