@@ -59,12 +59,14 @@ pub fn characters(pen: &mut Pen, c: &[u8], table: bool) {
 }
 
 // The first n bits of an octet, as digits.
-fn digits(pen: &mut Pen, x: u8, n: u8)
+fn digits(pen: &mut Pen, x: u8, n: usize)
     requires { n ≤ 8 }
 {
-    for k in 0..n {
-        pen.one(b'0' + (x << k) / 128);
+    let mut digits = [b'0'; 8];
+    for k in 0..8 {
+        digits[k] = b'0' + (x << k) / 128;
     }
+    pen.put(&digits[..n]);
 }
 
 // Bits, the first first; as many of the last octet as are used.
@@ -79,7 +81,7 @@ pub fn bits(pen: &mut Pen, c: &[u8]) {
         if i + 1 < octets.len() {
             digits(pen, *x, 8);
         } else {
-            digits(pen, *x, 8 - unused % 8);
+            digits(pen, *x, usize::from(8 - unused % 8));
         }
     }
 }
