@@ -87,7 +87,8 @@ impl Call {
         }
     }
 
-    // With the line's octets.
+    // With the line's octets; in a frame of its own, which the arrays take.
+    #[inline(never)]
     pub fn line(self, rt: &impl Print, line: Line) {
         let mut one = [0; INPUT];
         let mut two = [0; INPUT];

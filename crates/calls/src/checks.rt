@@ -39,6 +39,8 @@ impl Call {
         }
     }
 
+    // In a frame of its own, which the array takes.
+    #[inline(never)]
     pub fn line(self, rt: &impl Print, line: Line) {
         let mut octets = [0; INPUT];
         let octets = Area::of(&mut octets, line.group(1));

@@ -38,7 +38,7 @@ impl Call {
     }
 }
 
-// Its two areas.
+// Its two areas. What is done with them by a call of large arrays is laid into no other function, so that the arrays of one call alone are on the stack.
 #[derive(Drop)]
 pub struct Trunk<'a> {
     state: Area<'a>,
@@ -61,16 +61,12 @@ impl<'a> Trunk<'a> {
             Call::Area => self.area(line),
             Call::Silence => self.silence(rt, line),
             Call::Forget => self.forget(rt, line),
-            Call::Feed => self.feed(rt, line, Area::of(&mut [0; INPUT], line.group(1)).shown()),
-            Call::Frame => self.feed(rt, line, framed(line, &mut [0; INPUT]).shown()),
+            Call::Feed => self.feed_octets(rt, line),
+            Call::Frame => self.feed_frame(rt, line),
             Call::ShowState => print::area(rt, b"  state", self.state.lent()),
             Call::ShowArea => print::area(rt, b"  area", self.message.lent()),
-            Call::AreaAt => text::lay(
-                self.message.lent(),
-                line.number(1),
-                Area::of(&mut [0; INPUT], line.group(1)).shown(),
-            ),
-            Call::Replay => self.replay(rt, line, Area::of(&mut [0; INPUT], line.group(1)).shown()),
+            Call::AreaAt => self.lay(line),
+            Call::Replay => self.replay_records(rt, line),
         }
     }
 
@@ -88,7 +84,37 @@ impl<'a> Trunk<'a> {
         self.message.fill(octet[0], line.number(1));
     }
 
+    // Octets laid over the message area's.
+    #[inline(never)]
+    fn lay(&mut self, line: Line) {
+        let mut octets = [0; INPUT];
+        let octets = Area::of(&mut octets, line.group(1));
+        text::lay(self.message.lent(), line.number(1), octets.shown());
+    }
+
+    #[inline(never)]
+    fn feed_octets(&mut self, rt: &impl Print, line: Line) {
+        let mut octets = [0; INPUT];
+        let octets = Area::of(&mut octets, line.group(1));
+        self.feed(rt, line, octets.shown());
+    }
+
+    #[inline(never)]
+    fn feed_frame(&mut self, rt: &impl Print, line: Line) {
+        let mut octets = [0; INPUT];
+        let octets = framed(line, &mut octets);
+        self.feed(rt, line, octets.shown());
+    }
+
+    #[inline(never)]
+    fn replay_records(&mut self, rt: &impl Print, line: Line) {
+        let mut octets = [0; INPUT];
+        let octets = Area::of(&mut octets, line.group(1));
+        self.replay(rt, line, octets.shown());
+    }
+
     // A piece, with a report area of the line's size.
+    #[inline(never)]
     fn feed(&mut self, rt: &impl Print, line: Line, piece: &[u8]) {
         let mut report = [0xEE; OUTPUT];
         let mut report = Area::new(&mut report, line.number(1));
@@ -106,6 +132,7 @@ impl<'a> Trunk<'a> {
     }
 
     // Records, with a report area of the line's size.
+    #[inline(never)]
     fn replay(&mut self, rt: &impl Print, line: Line, records: &[u8]) {
         let mut report = [0xEE; OUTPUT];
         let mut report = Area::new(&mut report, line.number(1));
@@ -122,6 +149,7 @@ impl<'a> Trunk<'a> {
         eaten_end(rt, r, eaten, reported, &report);
     }
 
+    #[inline(never)]
     fn silence(&mut self, rt: &impl Print, line: Line) {
         let mut report = [0xEE; OUTPUT];
         let mut report = Area::new(&mut report, line.number(1));
@@ -151,6 +179,7 @@ fn eaten_end(rt: &impl Print, r: u8, eaten: usize, reported: u8, report: &Area) 
 }
 
 // A frame with its checks, or nothing where its data are too many.
+#[inline(never)]
 fn framed<'a>(line: Line, octets: &'a mut [u8]) -> Area<'a> {
     let mut head = [0u8; 3];
     text::words(line.group(1), &mut head);

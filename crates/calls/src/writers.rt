@@ -19,6 +19,8 @@ impl Call {
         }
     }
 
+    // In a frame of its own, which the arrays take; so are `frame` and `cut`.
+    #[inline(never)]
     pub fn line(self, rt: &impl Print, line: Line) {
         let mut one = [0; INPUT];
         let mut two = [0; INPUT];
@@ -43,6 +45,7 @@ fn end(rt: &impl Print, out: &Area) {
     print::area(rt, b"  out", out.shown());
 }
 
+#[inline(never)]
 fn frame(rt: &impl Print, line: Line, payload: &[u8]) {
     let mut out = [0xEE; OUTPUT];
     let mut out = Area::new(&mut out, line.number(4));
@@ -59,6 +62,7 @@ fn frame(rt: &impl Print, line: Line, payload: &[u8]) {
     end(rt, &out);
 }
 
+#[inline(never)]
 fn cut(rt: &impl Print, line: Line, fields: &[u8], params: &[u8]) {
     let mut out = [0xEE; OUTPUT];
     let mut out = Area::new(&mut out, line.number(5));
