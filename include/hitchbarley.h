@@ -20,8 +20,8 @@
    chooses: 0 is 1995, any other number the later edition. A trunk's edition is chosen at hb_fresh and kept in its state; no call changes it. Read a header
    that stands in the state area by the edition that the trunk has. The editions differ in those three bits and nowhere else.
 
-   Stack. Measured, in octets: hb_replay 4,640; hb_feed 3,712; hb_service_read 3,504; hb_items_list 3,104; hb_item_step 3,024; hb_item_next 2,976;
-   hb_forget 1,294; hb_service_write 1,104; hb_frame_write 624; hb_data_check and hb_data_run 544; hb_fresh 530; every other call below 500
+   Stack. Measured, in octets: hb_replay 5,032; hb_feed 3,864; hb_service_read 3,480; hb_items_list 3,176; hb_item_step 3,048; hb_item_next 3,000;
+   hb_service_write 1,240; hb_forget 862; hb_frame_write 680; hb_data_check and hb_data_run 568; every other call below 500
    (docs/PERFORMANCE.md).
 
    What each call promises is proved; its statement stands in crates/hitchbarley/src, with the definitions in specs. */

@@ -1,5 +1,5 @@
 // The calls over octets and records: each is made with every area that a line can lend.
-use crate::areas::{Input, Output};
+use crate::areas::{Area, INPUT, OUTPUT};
 use crate::print;
 use crate::text::Line;
 use hitchbarley::{header_calls, item_calls, service_calls};
@@ -87,11 +87,15 @@ impl Call {
         }
     }
 
-    // With the line's octets.
+    // With the line's octets; in a frame of its own, which the arrays take.
+    #[inline(never)]
     pub fn line(self, rt: &impl Print, line: Line) {
-        let one = Input::of(line.group(1));
-        let two = Input::of(line.group(2));
-        let mut out = Output::output(self.size(line));
+        let mut one = [0; INPUT];
+        let mut two = [0; INPUT];
+        let mut out = [0xEE; OUTPUT];
+        let one = Area::of(&mut one, line.group(1));
+        let two = Area::of(&mut two, line.group(2));
+        let mut out = Area::new(&mut out, self.size(line));
         let mut n: usize = 99;
         let r = self.make(line, one.shown(), two.shown(), out.lent(), &mut n);
         print::start(rt, r);

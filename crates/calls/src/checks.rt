@@ -1,5 +1,5 @@
 // The check sums, whole and in parts; and the receiver by value.
-use crate::areas::Input;
+use crate::areas::{Area, INPUT};
 use crate::text::Line;
 use crate::{print, receiver};
 use hitchbarley::sum_calls;
@@ -39,8 +39,11 @@ impl Call {
         }
     }
 
+    // In a frame of its own, which the array takes.
+    #[inline(never)]
     pub fn line(self, rt: &impl Print, line: Line) {
-        let octets = Input::of(line.group(1));
+        let mut octets = [0; INPUT];
+        let octets = Area::of(&mut octets, line.group(1));
         self.make(rt, line.number(1), octets.shown());
     }
 }

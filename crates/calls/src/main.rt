@@ -17,6 +17,7 @@ mod writers;
 
 ghost use Rattle.std.specs.Prelude.{◌≤◌, length};
 
+use areas::OUTPUT;
 use one_trunk::Trunk;
 use std::io::Read;
 use text::Line;
@@ -49,13 +50,13 @@ fn line(rt: &impl Print, s: &[u8], trunk: &mut Trunk) {
 
 // What came of the next line so far, and the trunk that the lines are about.
 #[derive(Drop)]
-struct Reading {
+struct Reading<'a> {
     held: [u8; 65536],
     len: usize,
-    trunk: Trunk,
+    trunk: Trunk<'a>,
 }
 
-impl Reading {
+impl Reading<'_> {
     // One more octet: a line's end, or an octet of it, as far as there is room.
     fn octet(&mut self, rt: &impl Print, x: u8) {
         if x == b'\n' {
@@ -94,10 +95,12 @@ fn full<R: Read>(input: &mut R, buf: &mut [u8]) -> usize
 
 // The text, up to 4 MiB.
 fn main(rt: HostRuntime) {
+    let mut state = [0; 700];
+    let mut message = [0; OUTPUT];
     let mut reading = Reading {
         held: [0; 65536],
         len: 0,
-        trunk: Trunk::new(),
+        trunk: Trunk::new(&mut state, &mut message),
     };
     let mut input = rt.reader();
     for _ in 0..64 {

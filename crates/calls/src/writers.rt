@@ -1,5 +1,5 @@
 // Frames written and messages cut.
-use crate::areas::{Input, Output};
+use crate::areas::{Area, INPUT, OUTPUT};
 use crate::print;
 use crate::text::Line;
 use hitchbarley::writer_calls;
@@ -19,9 +19,13 @@ impl Call {
         }
     }
 
+    // In a frame of its own, which the arrays take; so are `frame` and `cut`.
+    #[inline(never)]
     pub fn line(self, rt: &impl Print, line: Line) {
-        let one = Input::of(line.group(1));
-        let two = Input::of(line.group(2));
+        let mut one = [0; INPUT];
+        let mut two = [0; INPUT];
+        let one = Area::of(&mut one, line.group(1));
+        let two = Area::of(&mut two, line.group(2));
         match self {
             Call::FrameWrite => frame(rt, line, one.shown()),
             Call::Cut => cut(rt, line, one.shown(), two.shown()),
@@ -36,13 +40,15 @@ fn start(rt: &impl Print, r: u8, wrote: usize) {
 }
 
 // The area that was lent.
-fn end(rt: &impl Print, out: &Output) {
+fn end(rt: &impl Print, out: &Area) {
     print::end(rt);
     print::area(rt, b"  out", out.shown());
 }
 
+#[inline(never)]
 fn frame(rt: &impl Print, line: Line, payload: &[u8]) {
-    let mut out = Output::output(line.number(4));
+    let mut out = [0xEE; OUTPUT];
+    let mut out = Area::new(&mut out, line.number(4));
     let mut wrote: usize = 99;
     let r = writer_calls::hb_frame_write(
         line.octet(1),
@@ -56,8 +62,10 @@ fn frame(rt: &impl Print, line: Line, payload: &[u8]) {
     end(rt, &out);
 }
 
+#[inline(never)]
 fn cut(rt: &impl Print, line: Line, fields: &[u8], params: &[u8]) {
-    let mut out = Output::output(line.number(5));
+    let mut out = [0xEE; OUTPUT];
+    let mut out = Area::new(&mut out, line.number(5));
     let mut wrote: usize = 99;
     let mut segments: usize = 99;
     let r = writer_calls::hb_cut(

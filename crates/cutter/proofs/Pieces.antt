@@ -1,15 +1,17 @@
--- Octets laid piece by piece.
-use Prim.Native.Nat.{ℕ, ◌+◌, ◌-◌, ◌≤◌, min}
+-- Octets laid piece by piece, and parameters taken part by part.
+use Prim.Native.Nat.{ℕ, ◌+◌, ◌-◌, ◌*◌, ◌≤◌, min}
 use native.Mathlib.Omega.{arith}
+use native.Mathlib.Nat.{add-mul, one-mul}
 use Rattle.std.specs.Prelude.{Result, Ok, Err, IsOk}
 use mathlib.Core.Path.{◌≡◌, refl, sym, ◌∙◌}
 use mathlib.Core.List.{List, [], ◌++◌, append_assoc, append-nil}
+use lib.Dec.{ltb}
 use lib.ListN.{length, take, drop, length-append, length-drop, drop_of_length-le}
-use lib.Seq.{drop-drop, take_all}
-use borrow.Author.Tests.{le-ltb}
+use lib.Seq.{drop-drop, take_all, drop-length}
+use borrow.Author.Tests.{le-ltb, ltb-true, ltb-false}
 use Rattle.std.proofs.lemmas.List.{take_min}
 use Rattle.octets.specs.Splice.{splice, splice_then, Put}
-use Rattle.octets.specs.Choice.{impossible}
+use Rattle.octets.specs.Choice.{by_test, impossible}
 use Rattle.octets.specs.Laid.{Laid, answer_of, area_of}
 use Rattle.octets.specs.Refusal.{numbered}
 use Rattle.octets.specs.declared.refusal.Refusal.{Refusal}
@@ -60,3 +62,23 @@ part_taken each a m params e =
     let whole : take (length params - a) (drop a params) ≡ drop a params = take_all (length params - a) (drop a params) (rw length-drop (omega arith)) in
     let f : m ≡ min each (length (drop a params)) = omega (arith, rw whole at e) in
     rw (whole, f) (take_min each (drop a params))
+
+-- a part from its place to its end, and what is left behind it
+module _ (each from to : ℕ) (params : List ℕ) (h : from ≤ length params) (e : to ≡ from + min (length params - from) each) where
+  pub end_range : (from ≤ to) × (to ≤ length params)
+  end_range = (omega (arith, e), omega (arith, h, e))
+
+  pub end_part : take (to - from) (drop from params) ≡ take each (drop from params)
+  end_part =
+      let whole : take (length params - from) (drop from params) ≡ drop from params = take_all (length params - from) (drop from params) (rw length-drop (omega arith)) in
+      let m : to - from ≡ min (length (take (length params - from) (drop from params))) each = rw (whole, length-drop) (omega (arith, e)) in
+      rw whole at (part_taken each from (to - from) params m)
+
+  pub end_rest : (k : ℕ) → drop from params ≡ drop (k * each) params → drop to params ≡ drop ((k + 1) * each) params
+  end_rest k d =
+      let next : drop ((k + 1) * each) params ≡ drop (from + each) params =
+      rw (add-mul k 1 each, one-mul, ← drop-drop each (k * each) params, ← d, drop-drop each from params) in
+      by_test (ltb (length params - from) each)
+      (λ q. let t : to ≡ length params = omega (arith, h, e, ltb-true (length params - from) each q) in
+      rw (t, next) (drop-length params ∙ sym (drop_of_length-le params {i = from + each} (omega (arith, ltb-true (length params - from) each q)))))
+      (λ q. let t : to ≡ from + each = omega (arith, e, ltb-false (length params - from) each q) in rw (t, next))

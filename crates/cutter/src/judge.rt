@@ -35,6 +35,7 @@ fn segments(each: usize, n: usize) -> usize
 }
 
 // The first refusal, or the number of segments: they are counted only once it is known that each has octets.
+#[tactic(auto, using(octets::specs::Rules::tests), unfolding(crate::specs::Fault::fault_of, crate::specs::Fault::count_fault))]
 pub fn judge(edition: Edition, m: Message, w: Way, n: usize) -> Result<usize, Refusal>
     ensures { Judged edition m w n result }
 {

@@ -46,10 +46,11 @@ pub fn put_all(edition: Edition, m: Message, w: Way, count: usize, params: &[u8]
 {
     let head = crate::heads::network_head(w);
     let mut at = 0;
+    let mut from = 0;
     for k in 0..count {
-        let rest = &params[k * w.each..];
-        let part = &rest[..rest.len().min(w.each)];
         let p = crate::heads::pdu_of(m, w.window, k + 1 < count, k as u8);
-        at = put_npdu(edition, head, p, part, out, at);
+        let to = from + (params.len() - from).min(w.each);
+        at = put_npdu(edition, head, p, &params[from..to], out, at);
+        from = to;
     }
 }

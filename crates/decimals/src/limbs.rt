@@ -65,17 +65,14 @@ fn power(bits: u32) -> u32
 
 impl Number {
     // Stays: (c) the loops below go by index: tried in `add`, `self.limbs[..n].iter_mut().zip(&other.limbs)` is not covered (add_spec stays open: a field beside a ghost field is lent), and scale and subtract lend the same field.
-    // m times two to a number of bits, in so many limbs.
-    pub fn place(used: usize, m: u64, bits: usize) -> Number
-        requires { (used ≤ 40) × (bits ≤ 1200) }
+    // m times two to a number of bits, into a number that is 0.
+    pub fn place(&mut self, m: u64, bits: usize)
+        requires { bits ≤ 1200 }
     {
-        let mut limbs = [0; 40];
         let at = bits / 32;
-        limbs[at] = low(m);
-        limbs[at + 1] = high(m);
-        let mut a = Number { limbs, used };
-        a.scale(power((bits % 32) as u32));
-        a
+        self.limbs[at] = low(m);
+        self.limbs[at + 1] = high(m);
+        self.scale(power((bits % 32) as u32));
     }
 
     // Multiplies a number, and answers what does not fit its limbs.

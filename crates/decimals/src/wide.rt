@@ -28,13 +28,22 @@ impl Wide {
     fn new(b: &Binary, used: usize) -> Wide
         requires { used ≤ 40 }
     {
-        Wide {
-            r: Number::place(used, b.m, b.up + 2),
-            s: Number::place(used, 1, b.down + 2),
-            plus: Number::place(used, 1, b.up + 1),
-            minus: Number::place(used, 1, b.nearest),
+        let zero = Number {
+            limbs: [0; 40],
+            used,
+        };
+        let mut wide = Wide {
+            r: zero,
+            s: zero,
+            plus: zero,
+            minus: zero,
             even: b.m % 2 == 0,
-        }
+        };
+        wide.r.place(b.m, b.up + 2);
+        wide.s.place(1, b.down + 2);
+        wide.plus.place(1, b.up + 1);
+        wide.minus.place(1, b.nearest);
+        wide
     }
 
     // Ten times the number, and half the way to its neighbours with it.
@@ -44,23 +53,9 @@ impl Wide {
         self.minus.scale(10);
     }
 
-    // The number with half the way to the next.
-    fn near(&self) -> Number {
-        let mut t = self.r;
-        t.add(&self.plus);
-        t
-    }
-
     // Whether t reaches s.
     fn whole(&self, t: &Number) -> bool {
         exceeds(t.compare(&self.s), self.even)
-    }
-
-    // Whether ten times the number with half the way to the next still falls short of s.
-    fn short(&self) -> bool {
-        let mut t = self.near();
-        t.scale(10);
-        !self.whole(&t)
     }
 
     // How twice the number compares with s.
@@ -74,8 +69,10 @@ impl Wide {
     fn down_to_one(&mut self) -> usize
         ensures { (400 ≤ result) × (result ≤ 800) }
     {
+        let mut near = self.r;
+        near.add(&self.plus);
         for point in 400..800 {
-            if !self.whole(&self.near()) {
+            if !self.whole(&near) {
                 return point;
             }
             self.s.scale(10);
@@ -88,8 +85,11 @@ impl Wide {
         requires { from ≤ 800 }
         ensures { result ≤ 800 }
     {
+        let mut near = self.r;
+        near.add(&self.plus);
         for point in (0..from).rev() {
-            if !self.short() {
+            near.scale(10);
+            if self.whole(&near) {
                 return point + 1;
             }
             self.grow();
@@ -103,7 +103,9 @@ impl Ratio for Wide {
         self.grow();
         let digit = self.r.divide(&self.s);
         let low = exceeds(self.minus.compare(&self.r), self.even);
-        let high = self.whole(&self.near());
+        let mut near = self.r;
+        near.add(&self.plus);
+        let high = self.whole(&near);
         if !low && !high {
             return Figure { digit, last: false };
         }

@@ -52,3 +52,4 @@ pub mod CutAndFed
 pub mod CutOverOctets
 pub mod CanBeCut
 pub mod Apart
+pub mod OneOfEach

@@ -107,7 +107,7 @@ module _ (o piece : List ℕ) where
     near_more x l h e =
         record { same = k.same; kept = k.kept; low = l; high_none = k.high_none; low_none = k.low_none; long = k.long; within = omega arith; on = e }
 
-    seek_near : i < length piece → oct piece i ≡ 0x55 → Seeking o piece o' 1 (i + 1)
+    pub seek_near : i < length piece → oct piece i ≡ 0x55 → Seeking o piece o' 1 (i + 1)
     seek_near h e = near_more 1 (lit< tt) h (near_on 1 h (step_near (head_at o) (oct o 8) (store_part o) near (oct piece i) k.low e))
 
     seek_away : i < length piece → (oct piece i ≡ 0x55 → ⊥) → (near ≡ 1 → oct piece i ≡ 0xFF → ⊥) → Seeking o piece o' 0 (i + 1)

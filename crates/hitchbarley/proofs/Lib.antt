@@ -4,6 +4,7 @@ pub mod Stilled
 pub mod Replayed
 pub mod Answered
 pub mod Headers
+pub mod Items
 pub mod Services
 pub mod Writers
 pub mod Trips

@@ -24,7 +24,7 @@ use Rattle.collector.specs.declared.lent.Hushed as Code
 use Rattle.collector.proofs.Hushed.{hush_slots, hush_left}
 use Rattle.state.specs.Link.{link_size, link_octets, link_of}
 use Rattle.state.specs.Layout.{state_size, link_part, store_part}
-use Rattle.state.specs.Calls.{state_good, state_at, load_of, lift_of, fair_of, judge_of, silence_of, Lays, Stands}
+use Rattle.state.specs.Calls.{state_good, state_at, load_of, lift_of, fair_of, judge_of, silence_of, Silence, Lays, Stands}
 use Rattle.state.proofs.Places.{Holds, link_over}
 use Rattle.records.specs.Flag.{flag}
 use Rattle.hitchbarley.specs.Trunk.{Stills}
@@ -62,6 +62,9 @@ module _ (state report : List ℕ) (os : Octets state) (k : length report ≡ re
       (λ f. let z : n ≡ 59 = rw (t, f) at e in rw z (still_unfair (eqb-true (length state) state_size t) g f)))
       (λ g. let z : n ≡ 59 = rw (t, g) at e in rw z (barred_as 59 (rw (t, g)) (λ y. omega arith))))
       (λ t. let z : n ≡ 60 = rw t at e in rw z (barred_as 60 (rw t) (λ y. omega arith)))
+
+  pub still_not : {r : Silence} → Stands state r → (r.refused ≡ 0 → ⊥) → Stills state report r.refused 0 state report
+  still_not y h = judged_not y.number h
 
   module _ {x : Result Link Refusal} (y : Stands state (silence_of x)) where
     pub still_refused : {r : Refusal} {n : ℕ} → x ≡ Err r → n ≡ number_of r → Stills state report n 0 state report

@@ -2,7 +2,7 @@
 ghost use Rattle.std.specs.Prelude.{◌≡◌};
 ghost use Rattle.item_judge.specs.Kinds.{rec_of, boolean_rule, application_rule, context_rule, bracket_rule, closing_rule, kind_rule};
 
-use crate::nesting::Groups;
+use crate::nesting::Open;
 use crate::{Record, contents};
 
 // A boolean, with so many groups open: its value is in the record, and it has no contents.
@@ -45,7 +45,7 @@ fn bracket(r: Record, depth: usize) -> bool
 }
 
 // A closing: of the innermost group's number.
-fn closing(r: Record, groups: &Groups) -> bool
+fn closing(r: Record, groups: &Open) -> bool
     ensures { result ≡ closing_rule groups.now (rec_of r) }
 {
     let Some(n) = groups.innermost() else {
@@ -56,7 +56,7 @@ fn closing(r: Record, groups: &Groups) -> bool
 
 // A record, with these groups open.
 #[tactic(auto, using(octets::specs::Rules::tests), unfolding(crate::specs::Kinds::kind_rule))]
-pub fn good(r: Record, source: &[u8], groups: &Groups) -> bool
+pub fn good(r: Record, source: &[u8], groups: &Open) -> bool
     ensures { result ≡ kind_rule source.now groups.now (rec_of r) }
 {
     let depth = groups.depth();

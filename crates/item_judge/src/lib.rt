@@ -10,7 +10,7 @@ ghost use Rattle.std.specs.Prelude.{◌≡◌, ◌/◌, ◌%◌, ◌≤◌, leng
 ghost use Rattle.octets.specs.Refusal.{numbered};
 ghost use Rattle.item_judge.specs.Judge.{judged};
 
-use nesting::Groups;
+use nesting::Open;
 use octets::Refusal;
 
 // A record of an item to write: its kind, number, depth, value, and the place and the length of its contents.
@@ -22,6 +22,13 @@ pub struct Record {
     pub value: u8,
     pub place: usize,
     pub len: usize,
+}
+
+// The numbers of the open groups, the innermost last, and how many there are: as plain octets, which `nesting::Open` keeps in bounds and sees as a list.
+#[derive(Clone, Copy)]
+pub struct Groups {
+    pub numbers: [u8; 16],
+    pub depth: usize,
 }
 
 // The octets that the items of records take. The records are judged whole before anything is written.
@@ -39,7 +46,7 @@ fn judge_all(records: &[u8], source: &[u8]) -> Result<usize, Refusal>
     requires { (length records.now % 12 ≡ 0) × (length records.now / 12 ≤ 2048) }
     ensures { numbered result ≡ judged records.now source.now }
 {
-    let mut groups = Groups::none();
+    let mut groups = Open::none();
     let mut size = 0;
     for i in 0..records.len() / 12 {
         let r = records::record_at(records, 12 * i);

@@ -2,32 +2,33 @@
 ghost use Rattle.std.specs.Prelude.{ℕ, List, ◌≡◌, [], ◌∷◌, ◌≤◌, ◌<◌, length};
 ghost use Rattle.item_judge.specs.Kinds.{stack, innermost, without, groups_after};
 
-use crate::Record;
+use crate::{Groups, Record};
 use std::marker::Model;
 
 // Their numbers, the innermost last, and how many they are: in a clause, the list of the numbers, innermost first.
 #[derive(Drop)]
-pub struct Groups {
-    numbers: [u8; 16],
-    depth: usize,
+pub struct Open {
+    groups: Groups,
 }
 
-impl Model for Groups {
+impl Model for Open {
     ghost Value = { List ℕ };
 
-    ghost view = { λ g. stack g.numbers g.depth };
+    ghost view = { λ g. stack g.groups.numbers g.groups.depth };
 
-    ghost invariant = { λ g. g.depth ≤ 16 };
+    ghost invariant = { λ g. g.groups.depth ≤ 16 };
 }
 
-impl Groups {
+impl Open {
     // No group is open.
-    pub fn none() -> Groups
+    pub fn none() -> Open
         ensures { result ≡ [] }
     {
-        Groups {
-            numbers: [0; 16],
-            depth: 0,
+        Open {
+            groups: Groups {
+                numbers: [0; 16],
+                depth: 0,
+            },
         }
     }
 
@@ -35,17 +36,17 @@ impl Groups {
     pub fn depth(&self) -> usize
         ensures { result ≡ length self.now }
     {
-        self.depth
+        self.groups.depth
     }
 
     // The innermost group's number.
     pub fn innermost(&self) -> Option<u8>
         ensures { result ≡ innermost self.now }
     {
-        if self.depth == 0 {
+        if self.groups.depth == 0 {
             return None;
         }
-        Some(self.numbers[self.depth - 1])
+        Some(self.groups.numbers[self.groups.depth - 1])
     }
 
     // A group of number n is opened.
@@ -53,8 +54,8 @@ impl Groups {
         requires { length self.old < 16 }
         ensures { self.new ≡ n ∷ self.old }
     {
-        self.numbers[self.depth] = n;
-        self.depth += 1;
+        self.groups.numbers[self.groups.depth] = n;
+        self.groups.depth += 1;
     }
 
     // The innermost group is closed.
@@ -62,7 +63,7 @@ impl Groups {
         requires { 0 < length self.old }
         ensures { self.new ≡ without self.old }
     {
-        self.depth -= 1;
+        self.groups.depth -= 1;
     }
 
     // A good record is passed.

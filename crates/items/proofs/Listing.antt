@@ -25,6 +25,11 @@ unfolding counted
 counted_bad (good rs end) x e = impossible (cc)
 counted_bad (bad y) x e = let z : y ≡ x = cc in ap bad z
 
+counted_never : (o : Out) (n : ℕ) → counted o ≡ Small n → ⊥
+unfolding counted
+counted_never (good rs end) n e = impossible (cc)
+counted_never (bad x) n e = impossible (cc)
+
 counted_many : (o : Out) (n : ℕ) → Many o n → counted o ≡ Items n
 unfolding counted
 counted_many o n z = rw (z.2, z.3)

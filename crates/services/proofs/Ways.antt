@@ -1,14 +1,15 @@
 -- The ways through the functions of the reading: what each promises, from what the calls in it promise and the tests that it took.
 use Prim.Native.Nat.{ℕ, ◌+◌, ◌-◌, ◌/◌, ◌^◌, ◌≤◌, ◌<◌}
 use native.Mathlib.Omega.{arith}
-use mathlib.Core.Path.{◌≡◌, refl, sym, ap, ◌∙◌}
+use mathlib.Core.Path.{◌≡◌, refl, sym, ap, subst, ◌∙◌}
 use mathlib.Core.Logic.{◌⊎◌, inl, inr}
 use mathlib.Core.List.{List}
 use mathlib.Core.Bool.{Bool, true, false}
 use lib.ListN.{length}
-use mir.Syntax.{w8, w64}
-use mir.Val.{Fits}
-use borrow.Author.Tests.{lt-ltb, le-ltb, eq-eqb, ne_eqb}
+use lib.Dec.{ltb}
+use mir.Syntax.{Width, w8, w64}
+use mir.Val.{Fits, bits}
+use borrow.Author.Tests.{lt-ltb, le-ltb, ltb-true, eq-eqb, ne_eqb}
 use Rattle.octets.specs.Reading.{oct}
 use Rattle.octets.specs.declared.refusal.Refusal.{Refusal}
 use Rattle.octets.specs.Refusal as reason
@@ -33,7 +34,7 @@ use Rattle.std.specs.Prelude.{Result, Ok, Err, is_some}
 use Rattle.std.specs.Option.{unwrap_or}
 use Rattle.std.specs.declared.option.Option.{Option}
 use Rattle.std.specs.declared.option.Option.TheVariants.{None, Some}
-use Rattle.services.specs.Places.{found_in, Answers, Goes, Stops, Presence, optional_part, limits_part}
+use Rattle.services.specs.Places.{found_in, Answers, Goes, Stops, Presence, optional_part, limits_part, Topped, OptionalTopped}
 use Rattle.services.specs.declared.Service.TheVariants.{WhoIs}
 use Rattle.services.specs.declared.Target.{Target}
 use Rattle.services.specs.declared.Span.{Span}
@@ -73,6 +74,15 @@ module _ (s : List ℕ) (at : ℕ) (rs : List Rec) (w : Left s at rs) where
     stops_group x stops = stops next rs w
 
 pub ruleset in_turn = (reads_item, stops_item, reads_number, stops_number, reads_target, stops_target, reads_group, stops_group)
+
+-- a number that was read fits where the top of its range does
+pub small_part : (b : Width) (v to : ℕ) (q : Result (ℕ × ℕ) ℕ) → q ≡ Ok (v, to) → (high : ℕ) → Topped high q → ltb high (2 ^ bits b) ≡ true → Fits b v
+small_part b v to q e high h l = let k : v ≤ high = subst (Topped high) e h in record { fits = omega (arith, k, ltb-true high (2 ^ bits b) l) }
+
+pub small_number : (b : Width) (i : Option ℕ) (to : ℕ) (q : Result (Option ℕ × ℕ) ℕ) → q ≡ Ok (i, to) → (high : ℕ) → OptionalTopped high q
+    → ltb high (2 ^ bits b) ≡ true → Fits b (unwrap_or i 0)
+small_number b (Some v) to q e high h l = let k : v ≤ high = subst (OptionalTopped high) e h in record { fits = omega (arith, k, ltb-true high (2 ^ bits b) l) }
+small_number b None to q e high h l = record { fits = omega (arith, ltb-true high (2 ^ bits b) l) }
 
 -- ---- the wanted item, t being the head at the place
 module _ (s : List ℕ) (at kind number : ℕ) (t : tag.Tag) (e : seen_as t ≡ head_at s at) (k : Class) (n v p l : ℕ) (q : t ≡ tag.TheVariants.Item k n v p l) (c : ℕ) (d : c ≡ kind_of k) where

@@ -23,6 +23,22 @@ fn lengths(n: u8) -> (usize, usize)
     }
 }
 
+// The fewest contents octets of type n.
+pub fn low(n: u8) -> usize
+    requires { n ≤ 12 }
+    ensures { result ≡ least n }
+{
+    lengths(n).0
+}
+
+// The most contents octets of type n.
+pub fn high(n: u8) -> usize
+    requires { n ≤ 12 }
+    ensures { result ≡ most n }
+{
+    lengths(n).1
+}
+
 // Whether contents of type n may be as long as that.
 #[tactic(auto, using(octets::specs::Rules::tests), unfolding(crate::specs::Types::right_length))]
 pub fn fits(n: u8, len: usize) -> bool

@@ -1,6 +1,5 @@
 // The contents of an application item as text, by its type.
 use crate::long;
-use std::fmt;
 use words::Pen;
 use words::names::{BOOLEANS, OBJECTS};
 
@@ -46,11 +45,17 @@ enum Part {
     Number(u16),
 }
 
-impl fmt::Display for Part {
-    fn fmt<W: fmt::Write>(&self, f: &mut fmt::Formatter<W>) -> fmt::Result {
-        match *self {
-            Part::Word(word) => f.write_str(word),
-            Part::Number(n) => write!(f, "{n:02}"),
+impl Part {
+    // Put without a format, which costs some hundred instructions.
+    fn put(self, pen: &mut Pen) {
+        match self {
+            Part::Word(word) => pen.put(word.as_bytes()),
+            Part::Number(n) => {
+                if n < 10 {
+                    pen.one(b'0');
+                }
+                pen.number(n);
+            }
         }
     }
 }
@@ -104,14 +109,25 @@ fn weekday(x: u8) -> &'static str {
 // Year, month, day and weekday; `*` is any.
 fn date(pen: &mut Pen, c: &[u8]) {
     if let [y, m, d, w] = *c {
-        write!(pen, "{}-{}-{}{}", year(y), month(m), day(d), weekday(w));
+        year(y).put(pen);
+        pen.one(b'-');
+        month(m).put(pen);
+        pen.one(b'-');
+        day(d).put(pen);
+        pen.put(weekday(w).as_bytes());
     }
 }
 
 // Hour, minute, second and hundredths; `*` is any.
 fn time(pen: &mut Pen, c: &[u8]) {
     if let [h, m, s, hundredths] = *c {
-        write!(pen, "{}:{}:{}.{}", any(h), any(m), any(s), any(hundredths));
+        any(h).put(pen);
+        pen.one(b':');
+        any(m).put(pen);
+        pen.one(b':');
+        any(s).put(pen);
+        pen.one(b'.');
+        any(hundredths).put(pen);
     }
 }
 

@@ -1,4 +1,6 @@
 // Contents of any length as text: octets, characters and bits. Where fewer than 96 octets of the area are left, the rest is cut and counted.
+ghost use Rattle.std.specs.Prelude.{◌≤◌};
+
 use words::Pen;
 
 const ROOM: usize = 96;
@@ -21,7 +23,10 @@ pub fn octets(pen: &mut Pen, c: &[u8]) {
 // A character of a quoted text: controls as \xNN; a quote is written twice in a table and behind a backslash in a line, as is a backslash in both.
 fn character(pen: &mut Pen, x: u8, table: bool) {
     match x {
-        0..=31 | 127 => write!(pen, "\\x{x:02X}"),
+        0..=31 | 127 => {
+            pen.put(b"\\x");
+            pen.hex(x);
+        }
         b'"' if table => pen.put(b"\"\""),
         b'"' | b'\\' => pen.put(&[b'\\', x]),
         _ => pen.one(x),
@@ -53,6 +58,17 @@ pub fn characters(pen: &mut Pen, c: &[u8], table: bool) {
     }
 }
 
+// The first n bits of an octet, as digits.
+fn digits(pen: &mut Pen, x: u8, n: usize)
+    requires { n ≤ 8 }
+{
+    let mut digits = [b'0'; 8];
+    for k in 0..8 {
+        digits[k] = b'0' + (x << k) / 128;
+    }
+    pen.put(&digits[..n]);
+}
+
 // Bits, the first first; as many of the last octet as are used.
 pub fn bits(pen: &mut Pen, c: &[u8]) {
     let [unused, octets @ ..] = c else {
@@ -63,10 +79,9 @@ pub fn bits(pen: &mut Pen, c: &[u8]) {
             return left(pen, octets.len() - i);
         }
         if i + 1 < octets.len() {
-            write!(pen, "{x:08b}");
+            digits(pen, *x, 8);
         } else {
-            let spare = unused % 8;
-            write!(pen, "{:01$b}", x >> spare, usize::from(8 - spare));
+            digits(pen, *x, usize::from(8 - unused % 8));
         }
     }
 }

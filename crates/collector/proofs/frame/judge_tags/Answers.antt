@@ -10,4 +10,4 @@ returns-in-Err-Small c = number_small _ _ _ c.list.result c.list.ensures {n = c.
 
 -- a tag's refusal
 pub returns-in-Err-Refused : goal.returns-in-Err-Refused
-returns-in-Err-Refused c = number_bad _ _ _ c.list.result c.list.ensures (cc)
+returns-in-Err-Refused c = number_bad _ _ _ c.list.result c.list.ensures {n = c.in-Err-Refused.x} (cc)

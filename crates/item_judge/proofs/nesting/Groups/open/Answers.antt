@@ -1,8 +1,0 @@
-use Rattle.std.proofs.Common.{rules, arith, ap, length, ◌<◌}
-use Rattle.item_judge.proofs.Stack.{stack_length, stack_push}
-use Rattle.item_judge.proofs.nesting.Groups.open.Goals as goal
-
-pub returns : goal.returns
-returns c =
-    let h : c.self.inside.depth < 16 = omega (arith, stack_length c.self.inside.numbers c.self.inside.depth, ap length c.self.view_is) in
-    rw (← c.self.view_is) (stack_push c.self.inside.numbers c.args.n c.self.inside.depth (search (rules, h)))
